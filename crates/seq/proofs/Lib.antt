@@ -1,0 +1,7 @@
+-- The laws of the vocabulary, for every crate above.
+pub mod Filling
+pub mod Parts
+pub mod Loops
+pub mod Keeping
+pub mod Sorting
+pub mod Summing

@@ -1,0 +1,23 @@
+-- The indices that pass a test, in order, and how many they are.
+use Prim.Native.Nat.{ℕ, zero, suc, _≤_}
+use mathlib.Core.Path.{_≡_}
+use mathlib.Core.Bool.{Bool}
+use mathlib.Core.List.{List, [], _∷_, _++_}
+use lib.ListN.{length, take}
+use Rattle.seq.specs.Choice.{pick}
+
+-- of 0, .., k - 1 those that pass
+unfoldable pub keep : (ℕ → Bool) → ℕ → List ℕ
+keep f zero = []
+keep f (suc k) = let r : List ℕ = keep f k in pick (f k) (r ++ (k ∷ [])) r
+
+-- how many of 0, .., k - 1 pass
+unfoldable pub count : (ℕ → Bool) → ℕ → ℕ
+count f zero = 0
+count f (suc k) = let r : ℕ = count f k in pick (f k) (suc r) r
+
+-- the first n elements of v are xs, and xs is n long
+pub record Pushed (xs : List ℕ) (n : ℕ) (v : List ℕ) : Type 0 where
+  pub within : n ≤ length v
+  pub front : take n v ≡ xs
+  pub long : length xs ≡ n
