@@ -1,0 +1,74 @@
+-- What the two rules are held to: the exact sums, as fractions of whole numbers, and how near a draw has to be to them.
+use Prim.Native.Nat.{ℕ, zero, suc, _+_, _-_, _*_, _^_, _≤_, _<_}
+use mathlib.Core.Bool.{Bool, true, false, not}
+use lib.Dec.{eqb}
+use lib.Ieee.{Float}
+use lib.Ieee.Exact.{HasValue}
+use Rattle.draw.specs.Divisors.{divisor, oddDivisor}
+
+-- ---- the cosine
+
+-- the denominator of the sum through t ^ (2k), where t * t is the fraction n / d: d ^ k * (2k)!
+unfoldable pub under : ℕ → ℕ → ℕ
+under d zero = 1
+under d (suc k) = under d k * (d * divisor k)
+
+-- the numerators of that sum: of the terms that have the sign of the last one, and of the others
+unfoldable pub exact : ℕ → ℕ → ℕ → ℕ × ℕ
+exact n d zero = (1, 0)
+exact n d (suc k) = (exact n d k .1 * (d * divisor k) + n ^ suc k, exact n d k .0 * (d * divisor k))
+
+-- w / 2 ^ 51 is within 64 / 2 ^ 51 = 1 / 2 ^ 45 of (a - b) / u
+pub record Within (w a b u : ℕ) : Type 0 where
+  pub above : w * u + 2 ^ 51 * b ≤ 2 ^ 51 * a + 64 * u
+  pub below : 2 ^ 51 * a ≤ w * u + 2 ^ 51 * b + 64 * u
+
+-- the same of w / 2 ^ 51 with a sign
+abbrev pub Close : Bool → ℕ → ℕ → ℕ → ℕ → Type 0
+Close false w a b u = Within w a b u
+Close true w a b u = Within w b a u
+
+-- The double r is a good cosine of the double t: t is x / 2 ^ 1075, r is ±w / 2 ^ 51, which lies in [-1, 1],
+-- and r is within 1 / 2 ^ 45 of the exact sums through t ^ 40 and through t ^ 42.
+pub record CosineMeets (t r : Float) : Type 0 where
+  pub x : ℕ
+  pub w : ℕ
+  pub sign : Bool
+  pub argument : HasValue t false x (2 ^ 1075)
+  pub result : HasValue r sign w (2 ^ 51)
+  pub inside : w ≤ 2 ^ 51
+  pub forty : Close sign w (exact (x * x) (2 ^ 2150) 20 .0) (exact (x * x) (2 ^ 2150) 20 .1) (under (2 ^ 2150) 20)
+  pub forty-two : Close sign w (exact (x * x) (2 ^ 2150) 21 .1) (exact (x * x) (2 ^ 2150) 21 .0) (under (2 ^ 2150) 21)
+
+-- ---- the logarithm
+
+-- a fraction, as its numerator and its denominator
+abbrev pub Fraction : Type 0
+Fraction = ℕ × ℕ
+
+-- the sum of two fractions
+abbrev pub sumOf : Fraction → Fraction → Fraction
+sumOf x y = (x .0 * y .1 + y .0 * x .1, x .1 * y .1)
+
+-- the sum of (p / q) ^ i / i over the first k odd i; A(p / q) is twice that, at k = 21
+unfoldable pub odds : ℕ → ℕ → ℕ → Fraction
+odds p q zero = (0, 1)
+odds p q (suc k) = sumOf (odds p q k) (p ^ oddDivisor k, q ^ oddDivisor k * oddDivisor k)
+
+-- -y / 2 ^ 47 is within 1 / 2 ^ 40 of 2 * x - e * (2 * t)
+pub record LogNear (y e : ℕ) (x t : Fraction) : Type 0 where
+  pub above : y * (x .1 * t .1) + 2 ^ 48 * (x .0 * t .1) ≤ 2 ^ 48 * (e * t .0 * x .1) + 2 ^ 7 * (x .1 * t .1)
+  pub below : 2 ^ 48 * (e * t .0 * x .1) ≤ y * (x .1 * t .1) + 2 ^ 48 * (x .0 * t .1) + 2 ^ 7 * (x .1 * t .1)
+
+-- The double r is a good logarithm of the double u: u is m * 2 ^ -e with m = (f + 2 ^ 52) / 2 ^ 52, from 1 up and below 2,
+-- so that s = (m - 1) / (m + 1) is f / (f + 2 ^ 53); r is -y / 2 ^ 47, or +0.0 where y is 0, and so never positive;
+-- and r is within 1 / 2 ^ 40 of A(s) - e * A(1 / 3).
+pub record LogarithmMeets (u r : Float) : Type 0 where
+  pub f : ℕ
+  pub e : ℕ
+  pub y : ℕ
+  pub fraction : f < 2 ^ 52
+  pub exponent : e ≤ 54
+  pub argument : HasValue u false ((f + 2 ^ 52) * 2 ^ (1023 - e)) (2 ^ 1075)
+  pub result : HasValue r (not (eqb y 0)) y (2 ^ 47)
+  pub near : LogNear y e (odds f (f + 2 ^ 53) 21) (odds 1 3 21)

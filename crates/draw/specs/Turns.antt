@@ -1,0 +1,46 @@
+-- What the series' own functions say to each other: where a series stands, and what one turn asks and does.
+use Prim.Native.Nat.{ℕ, _+_, _*_, _/_, _^_, _≤_, _<_}
+use mathlib.Core.Path.{_≡_}
+use Rattle.draw.specs.declared.CosTerms.{CosTerms}
+use Rattle.draw.specs.declared.LnTerms.{LnTerms}
+use Rattle.draw.specs.Cosine.{term, sums}
+use Rattle.draw.specs.Logarithm.{power, oddSum}
+
+-- s has the cosine's term k at the square z, and the two sums up to it
+pub record CosAt (z k : ℕ) (s : CosTerms) : Type 0 where
+  pub term-is : s .term ≡ term z k
+  pub plus-is : s .plus ≡ sums z k .0
+  pub minus-is : s .minus ≡ sums z k .1
+
+-- the term after that of s, by the divisor d
+abbrev pub nextTerm : ℕ → ℕ → CosTerms → ℕ
+nextTerm z d s = s .term * 64 * z / 2 ^ 64 / d
+
+-- what a turn of the cosine asks: nothing in it wraps
+pub record CosReady (z d : ℕ) (s : CosTerms) : Type 0 where
+  pub divides : 2 ≤ d
+  pub term-fits : s .term < 2 ^ 58
+  pub sum-fits : s .minus + nextTerm z d s < 2 ^ 64
+
+-- what it does: the next term is added to the sum of its sign, and the two sums change places
+pub record CosTurned (z d : ℕ) (s r : CosTerms) : Type 0 where
+  pub term-is : r .term ≡ nextTerm z d s
+  pub plus-is : r .plus ≡ s .minus + nextTerm z d s
+  pub minus-is : r .minus ≡ s .plus
+
+-- s has the logarithm's power k at the ratio q, and the sum of the powers below it, each by its divisor
+pub record LnAt (q k : ℕ) (s : LnTerms) : Type 0 where
+  pub power-is : s .power ≡ power q k
+  pub sum-is : s .sum ≡ oddSum q k
+
+-- what a turn of the logarithm asks: nothing in it wraps
+pub record LnReady (d : ℕ) (s : LnTerms) : Type 0 where
+  pub divides : 2 ≤ d
+  pub product-fits : s .power * d < 2 ^ 64
+  pub power-fits : s .power < 2 ^ 58
+  pub sum-fits : s .sum < 2 ^ 63
+
+-- what it does: this power by d is added to the sum, and the next power is made
+pub record LnTurned (w d : ℕ) (s r : LnTerms) : Type 0 where
+  pub power-is : r .power ≡ s .power * w / 2 ^ 64
+  pub sum-is : r .sum ≡ s .sum + s .power / d

@@ -1,0 +1,51 @@
+// The C interface: nothing but exported calls. include/knobthistle.h declares them.
+use draw::SplitMix64;
+ghost use mathlib.Core.Path.{_≡_};
+ghost use Rattle.ieee.specs.Root.{sqrtOf};
+ghost use Rattle.draw.specs.SplitMix.{outputOf, afterOf};
+ghost use Rattle.draw.specs.Uniform.{uniformOf};
+ghost use Rattle.draw.specs.Gaussian.{lnOfDraw, cosOfDraw, gaussianOf, afterGaussian};
+
+// The next uniform draw; the state moves on.
+#[no_mangle]
+pub extern "C" fn knob_uniform(state: &mut u64) -> f64
+    ensures { λ r. ⌜ (r ≡ uniformOf (outputOf (now (state .entry)))) × (now (state .exit) ≡ afterOf (now (state .entry))) ⌝ }
+{
+    let d = SplitMix64::new(*state).uniform();
+    *state = d.rng.state;
+    d.value
+}
+
+// The next Gaussian draw; the state moves on.
+#[no_mangle]
+pub extern "C" fn knob_gaussian(state: &mut u64) -> f64
+    ensures { λ r. ⌜ (r ≡ gaussianOf (now (state .entry))) × (now (state .exit) ≡ afterGaussian (now (state .entry))) ⌝ }
+{
+    let d = SplitMix64::new(*state).gaussian();
+    *state = d.rng.state;
+    d.value
+}
+
+// IEEE 754's square root.
+#[no_mangle]
+pub extern "C" fn knob_sqrt(x: f64) -> f64
+    ensures { λ r. ⌜ r ≡ sqrtOf x ⌝ }
+{
+    ieee::sqrt(x)
+}
+
+// The logarithm of the uniform of this output of the generator.
+#[no_mangle]
+pub extern "C" fn knob_log_draw(word: u64) -> f64
+    ensures { λ r. ⌜ r ≡ lnOfDraw word ⌝ }
+{
+    draw::ln_of(word)
+}
+
+// The cosine of TAU times the uniform of this output of the generator.
+#[no_mangle]
+pub extern "C" fn knob_cos_draw(word: u64) -> f64
+    ensures { λ r. ⌜ r ≡ cosOfDraw word ⌝ }
+{
+    draw::cos_of(word)
+}

@@ -1,0 +1,2 @@
+-- Laws of the basis, for every crate above.
+pub mod Bases

@@ -1,0 +1,20 @@
+-- `linear::project_out` meets its contract: two passes, one after the other.
+use Rattle.linear.proofs.Bases.{two-passes}
+use borrow.Author.Needs.{needs}
+use Rattle.linear.proofs.project_out.Statement.{statement}
+use Rattle.linear.proofs.project_out.Tie as tie
+
+pass-requires : tie.Need-pass-requires
+pass-requires c κs = search needs
+
+pass-requires-2 : tie.Need-pass-requires-2
+pass-requires-2 c κs = search needs
+
+same-length : tie.Need-same-length
+same-length c = search needs
+
+returns : tie.Need-returns
+returns c = let a = c .before .before .before .before .before .before .before .before .before .before .args in two-passes _ (a .l) (a .count) (a .basis .now) (a .v .now) _ _ (c .before .before .before .before .before .before .pass .ensures) (c .before .before .pass2 .ensures)
+
+pub project-out-spec : {M : Type 1} → statement M
+project-out-spec = tie.close (tie.spec pass-requires pass-requires-2 same-length returns)

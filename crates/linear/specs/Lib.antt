@@ -1,0 +1,4 @@
+-- Vectors, and an orthonormal basis.
+pub mod Vectors
+pub mod Basis
+pub mod Held

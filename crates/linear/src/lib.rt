@@ -1,0 +1,124 @@
+// Vectors and an orthonormal basis: dot, norm, max_abs, and Basis with project_out and insert, as 000 has them.
+use ieee::abs;
+use ieee::larger;
+use ieee::sqrt;
+ghost use mathlib.Core.Path.{_≡_};
+ghost use Prim.Native.Nat.{_≤_, _*_, _+_};
+ghost use lib.ListN.{length};
+ghost use Rattle.seq.specs.Lists.{tabulate};
+ghost use Rattle.seq.specs.Sums.{plusZero};
+ghost use Rattle.linear.specs.Vectors.{dotOf, normOf, maxAbsOf};
+ghost use Rattle.linear.specs.Basis.{lessAt, stripped, passTo, projected, overAt};
+ghost use Rattle.linear.specs.Held.{vectorsIn, Inserted};
+
+// One pass over the first count vectors, each l long.
+fn pass(basis: &[f64], count: usize, l: usize, v: &mut [f64])
+    requires { ⌜ (length (now v) ≡ l) × (count * l ≤ length (now basis)) ⌝ }
+    ensures { λ _. ⌜ now (v .exit) ≡ passTo plusZero (vectorsIn l count (now (basis .entry))) (now (v .entry)) count ⌝ }
+{
+    let mut k = 0usize;
+    while k < count {
+        let a = k * l;
+        let e = a + l;
+        strip(&basis[a..e], v);
+        k += 1;
+    }
+}
+
+// v less its part along q.
+fn strip(q: &[f64], v: &mut [f64])
+    requires { ⌜ length (now v) ≡ length (now q) ⌝ }
+    ensures { λ _. ⌜ now (v .exit) ≡ stripped plusZero (now (q .entry)) (now (v .entry)) ⌝ }
+{
+    let c = dot(q, &v[..]);
+    less_scaled(v, c, q);
+}
+
+// v - c q.
+fn less_scaled(v: &mut [f64], c: f64, q: &[f64])
+    requires { ⌜ length (now v) ≡ length (now q) ⌝ }
+    ensures { λ _. ⌜ now (v .exit) ≡ tabulate (lessAt c (now (q .entry)) (now (v .entry))) (length (now (v .entry))) ⌝ }
+{
+    let mut i = 0usize;
+    while i < v.len() {
+        v[i] = v[i] - c * q[i];
+        i += 1;
+    }
+}
+
+// Two passes ("twice is enough") over the count vectors of the basis, each l long.
+pub fn project_out(basis: &[f64], count: usize, l: usize, v: &mut [f64])
+    requires { ⌜ (length (now v) ≡ l) × (count * l ≤ length (now basis)) ⌝ }
+    ensures { λ _. ⌜ now (v .exit) ≡ projected plusZero (vectorsIn l count (now (basis .entry))) (now (v .entry)) ⌝ }
+{
+    pass(basis, count, l, v);
+    pass(basis, count, l, v);
+}
+
+// w / d.
+fn over(to: &mut [f64], d: f64, w: &[f64])
+    requires { ⌜ length (now to) ≡ length (now w) ⌝ }
+    ensures { λ _. ⌜ now (to .exit) ≡ tabulate (overAt d (now (w .entry))) (length (now (w .entry))) ⌝ }
+{
+    let mut i = 0usize;
+    while i < to.len() {
+        to[i] = w[i] / d;
+        i += 1;
+    }
+}
+
+// Offers v to the basis of count vectors, each l long; the new count. A full basis takes none. v is used up.
+pub fn insert(basis: &mut [f64], count: usize, l: usize, v: &mut [f64]) -> usize
+    requires { ⌜ (length (now v) ≡ l) × (l * l ≤ length (now basis)) × (count ≤ l) × (l ≤ 256) ⌝ }
+    ensures { λ r. ⌜ Inserted plusZero count l (now (basis .entry)) (now (v .entry)) r (now (basis .exit)) ⌝ }
+{
+    if count >= l {
+        return count;
+    }
+    let original = norm(&v[..]);
+    if original == 0.0 {
+        return count;
+    }
+    project_out(&basis[..], count, l, v);
+    let remaining = norm(&v[..]);
+    if remaining <= 1e-10 * original {
+        return count;
+    }
+    let end = count * l;
+    let stop = end + l;
+    over(&mut basis[end..stop], remaining, &v[..]);
+    count + 1
+}
+
+// The running sum of products, in order, from +0.0.
+pub fn dot(a: &[f64], b: &[f64]) -> f64
+    requires { ⌜ length (now a) ≤ length (now b) ⌝ }
+    ensures { λ r. ⌜ r ≡ dotOf plusZero (now (a .entry)) (now (b .entry)) ⌝ }
+{
+    let mut sum = 0.0;
+    let mut i = 0usize;
+    while i < a.len() {
+        sum = sum + a[i] * b[i];
+        i += 1;
+    }
+    sum
+}
+
+pub fn norm(a: &[f64]) -> f64
+    ensures { λ r. ⌜ r ≡ normOf plusZero (now (a .entry)) ⌝ }
+{
+    sqrt(dot(a, a))
+}
+
+// The largest magnitude, a NaN skipped; 0.0 of none.
+pub fn max_abs(a: &[f64]) -> f64
+    ensures { λ r. ⌜ r ≡ maxAbsOf (now (a .entry)) ⌝ }
+{
+    let mut most = 0.0;
+    let mut i = 0usize;
+    while i < a.len() {
+        most = larger(most, abs(a[i]));
+        i += 1;
+    }
+    most
+}

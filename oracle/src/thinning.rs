@@ -1,0 +1,326 @@
+// needs: knob_gaussian knob_sparsify knob_sparsify_within
+//! Thinning jobs: weights, stage, nonzeros and change against the original's own functions with our draw, every refusal against a
+//! table written here, and pairs of jobs on one ensemble and seed against each other. Argument: the folder of archived ensembles.
+
+#[path = "shared/chance.rs"]
+mod chance;
+#[path = "shared/domain.rs"]
+mod domain;
+#[path = "shared/draws.rs"]
+mod draws;
+#[path = "shared/faces.rs"]
+mod faces;
+#[path = "shared/jobs.rs"]
+mod jobs;
+#[path = "shared/lent.rs"]
+mod lent;
+#[path = "shared/matrices.rs"]
+mod matrices;
+#[path = "shared/original.rs"]
+mod original;
+#[path = "shared/tally.rs"]
+mod tally;
+#[path = "shared/thinning_calls.rs"]
+mod thinning_calls;
+#[path = "shared/watch.rs"]
+mod watch;
+
+use chance::{count, Chance};
+use domain::{Domain, Expected};
+use jobs::{by_stages, refusal, Ensemble, Rule};
+use lent::{scratch_sizes, Lent, Scratch};
+use tally::{end, same, Tally};
+use thinning_calls::{knob_sparsify, knob_sparsify_within, Answer};
+
+/// What a call was lent, and its answer.
+struct Made {
+    answer: Answer,
+    output: Lent<u64>,
+    scratch: Scratch,
+}
+
+fn make(e: &Ensemble, rule: Rule, mut output: Lent<u64>, mut scratch: Scratch) -> Made {
+    // Noise, so that a field that is not written shows.
+    let mut answer = Answer { number: 77, stage: 77, nonzeros: 77, change: 77.0 };
+    let (lengths, numbers, indices) = (output.len(), scratch.numbers.len(), scratch.indices.len());
+    let (matrix, weights) = (e.matrix.as_ptr(), e.weights.as_ptr());
+    let (to, first, second) = (output.lend().cast(), scratch.numbers.lend().cast(), scratch.indices.lend());
+    unsafe {
+        match rule {
+            Rule::Target(target) => knob_sparsify(
+                &mut answer,
+                matrix,
+                e.matrix.len(),
+                e.m,
+                e.n,
+                weights,
+                e.weights.len(),
+                e.seed,
+                target,
+                to,
+                lengths,
+                first,
+                numbers,
+                second,
+                indices,
+            ),
+            Rule::Within(allowance, cap) => knob_sparsify_within(
+                &mut answer,
+                matrix,
+                e.matrix.len(),
+                e.m,
+                e.n,
+                weights,
+                e.weights.len(),
+                e.seed,
+                allowance,
+                u32::from(cap.is_some()),
+                cap.unwrap_or(0),
+                to,
+                lengths,
+                first,
+                numbers,
+                second,
+                indices,
+            ),
+        }
+    };
+    Made { answer, output, scratch }
+}
+
+struct Comparison {
+    domain: Domain,
+    answers: Tally,
+    outside: Tally,
+    original: Tally,
+    scratch: Tally,
+    inputs: Tally,
+    refusals: Tally,
+    pairs: Tally,
+}
+
+impl Comparison {
+    /// Jobs on one ensemble: each against the original, each two against each other.
+    fn jobs(&mut self, e: &Ensemble, rules: &[Rule], chance: &mut Chance) {
+        let columns = matrices::columns(&e.matrix, e.m, e.n);
+        let given = bits(e);
+        let mut all: Vec<Made> = Vec::new();
+        for rule in rules {
+            let made = make(e, *rule, Lent::new(e.m, || chance.word()), Scratch::enough(e.m, e.n, chance));
+            let name = || format!("{} columns, {} rows, seed {:016X}, {rule:?}: {:?}", e.m, e.n, e.seed, made.answer);
+            let (said, tally) = match self.domain.expect(|| by_stages(&columns, e, *rule)) {
+                Expected::Original(said) => {
+                    self.original.note(said.agrees, &name);
+                    (said, &mut self.answers)
+                }
+                Expected::Document(said) => (said, &mut self.outside),
+            };
+            let a = made.answer;
+            let record = a.number == 0 && a.stage == said.stage && a.nonzeros == said.nonzeros && same(a.change, said.change);
+            let weights = made.output.content().iter().copied().eq(said.weights.iter().map(|w| w.to_bits()));
+            tally.note(record && weights, || {
+                format!("{}, expected stage {}, nonzeros {}, change {}", name(), said.stage, said.nonzeros, said.change)
+            });
+            self.scratch.note(made.scratch.wiped() && made.output.fenced(), &name);
+            self.inputs.note(bits(e) == given, &name);
+            all.push(made);
+        }
+        for (i, one) in all.iter().enumerate() {
+            for other in &all[..i] {
+                self.pairs
+                    .note(on_one_path(one, other), || format!("{} columns, {} rows, seed {:016X}, rules {rules:?}", e.m, e.n, e.seed));
+            }
+        }
+    }
+
+    fn refused(&mut self, e: &Ensemble, rule: Rule, output: Lent<u64>, scratch: Scratch) {
+        let expected = refusal(e, rule, output.len(), scratch.numbers.len(), scratch.indices.len());
+        let given = bits(e);
+        let made = make(e, rule, output, scratch);
+        let a = made.answer;
+        self.inputs.note(bits(e) == given, || format!("{} columns, {} rows, {rule:?}", e.m, e.n));
+        let right = a.number == expected
+            && if expected == 0 {
+                made.scratch.wiped()
+            } else {
+                a.stage == 0 && a.nonzeros == 0 && a.change.to_bits() == 0 && made.output.untouched() && made.scratch.untouched()
+            };
+        self.refusals.note(right, || format!("{} columns, {} rows, {rule:?}: {a:?}, expected {expected}", e.m, e.n));
+    }
+}
+
+/// The bits of a call's inputs.
+fn bits(e: &Ensemble) -> Vec<u64> {
+    e.matrix.iter().chain(&e.weights).map(|x| x.to_bits()).collect()
+}
+
+/// Two accepted jobs on equal ensembles and seeds read one path: at one stage all is equal, and at a later one there are fewer
+/// nonzeros, each of them at a place that had one of the same sign before.
+fn on_one_path(one: &Made, other: &Made) -> bool {
+    let (early, late) = if one.answer.stage <= other.answer.stage { (one, other) } else { (other, one) };
+    if early.answer.stage == late.answer.stage {
+        return early.output.content() == late.output.content()
+            && early.answer.nonzeros == late.answer.nonzeros
+            && same(early.answer.change, late.answer.change);
+    }
+    let doubles = |made: &Made| made.output.content().iter().map(|w| f64::from_bits(*w)).collect::<Vec<_>>();
+    let kept = |(before, after): (f64, f64)| after == 0.0 || (after > 0.0 && before > 0.0) || (after < 0.0 && before < 0.0);
+    late.answer.nonzeros < early.answer.nonzeros && doubles(early).into_iter().zip(doubles(late)).all(kept)
+}
+
+fn weights(m: usize, chance: &mut Chance) -> Vec<f64> {
+    let kind = chance.below(12);
+    let mut w: Vec<f64> = (0..m)
+        .map(|_| match kind {
+            0 => 1.0,
+            1 | 2 => chance.unit() + 0.01,
+            3 => chance.signed(),
+            4 => chance.sign() * 2f64.powi(chance.below(40) as i32 - 20),
+            5 => chance.sign() * 10f64.powi(chance.below(600) as i32 - 320),
+            6 => f64::from_bits(chance.word() >> chance.between(12, 63)),
+            7 => chance.signed() * (f64::MAX / 512.0),
+            8 => chance.pick(&[0.0, -0.0, 1.0, -1.0, 3.0]),
+            9 => chance.pick(&[1.0, 2.0, 3.0]),
+            10 => chance.unit() * if chance.once_in(5) { 1e-300 } else { 1e-3 },
+            _ => 1.0 / (1.0 + chance.below(5) as f64),
+        })
+        .collect();
+    if chance.once_in(5) {
+        let at = chance.below(m);
+        w[at] = chance.pick(&[100.0, -100.0, 5e-324, 1.0]);
+    }
+    if w.iter().all(|w| *w == 0.0) {
+        w[chance.below(m)] = chance.sign();
+    }
+    w
+}
+
+fn ensemble(m: usize, n: usize, chance: &mut Chance) -> Ensemble {
+    let kind = chance.below(matrices::MARGIN_KINDS);
+    Ensemble { matrix: matrices::matrix(kind, m, n, chance), m, n, weights: weights(m, chance), seed: chance.seed() }
+}
+
+fn a_rule(m: usize, chance: &mut Chance) -> Rule {
+    let some = |chance: &mut Chance| match chance.below(4) {
+        0 => chance.between(1, 4),
+        1 => chance.pick(&[m.max(1), m + 1, 1 << 32, usize::MAX]),
+        _ => chance.between(1, m.max(1)),
+    };
+    if chance.once_in(2) {
+        return Rule::Target(some(chance));
+    }
+    let allowance = match chance.below(8) {
+        0 => chance.pick(&[0.0, -0.0, f64::INFINITY, f64::MAX, 5e-324, 2.0, 1.0]),
+        1 => chance.unit() * 1e-3,
+        2 => chance.unit() * 2.0,
+        _ => chance.unit() * 0.5,
+    };
+    Rule::Within(allowance, if chance.once_in(2) { None } else { Some(some(chance)) })
+}
+
+/// Four rules, the last with an allowance at the very change of an earlier job or one double below it.
+fn rules(e: &Ensemble, chance: &mut Chance) -> Vec<Rule> {
+    let mut rules: Vec<Rule> = (0..3).map(|_| a_rule(e.m, chance)).collect();
+    let made = make(e, Rule::Target(chance.between(1, e.m)), Lent::new(e.m, || 0), Scratch::enough(e.m, e.n, chance));
+    let change = made.answer.change;
+    let allowance = if change > 0.0 && chance.once_in(2) { f64::from_bits(change.to_bits() - 1) } else { change };
+    rules.push(Rule::Within(
+        if allowance >= 0.0 { allowance } else { 0.0 },
+        if chance.once_in(2) { None } else { Some(chance.between(1, e.m)) },
+    ));
+    rules
+}
+
+/// A job with one fault or two.
+fn spoiled(chance: &mut Chance) -> (Ensemble, Rule, Lent<u64>, Scratch) {
+    let (m, n) = (chance.between(1, 10), chance.between(1, 10));
+    let mut e = ensemble(m, n, chance);
+    let mut rule = a_rule(m, chance);
+    let (mut output, (mut numbers, mut indices)) = (m, scratch_sizes(m, n));
+    for _ in 0..chance.between(1, 3) {
+        let near = |len: usize, chance: &mut Chance| chance.pick(&[len + 1, len.saturating_sub(1), 0, 2 * len + 3]);
+        match chance.below(14) {
+            0 | 1 => {
+                rule = Rule::Within(
+                    chance.pick(&[-1.0, f64::NAN, -f64::NAN, -5e-324, f64::NEG_INFINITY]),
+                    chance.pick(&[None, Some(0), Some(3)]),
+                )
+            }
+            2 => rule = chance.pick(&[Rule::Target(0), Rule::Within(0.5, Some(0)), Rule::Within(f64::INFINITY, Some(0))]),
+            3 => e.m = chance.pick(&[257, usize::MAX, 1 << 63]),
+            4 => e.n = chance.pick(&[4097, usize::MAX, 1 << 61]),
+            5 => e.matrix.resize(near(e.matrix.len(), chance), 0.5),
+            6 => e.weights.resize(near(e.weights.len(), chance), 0.5),
+            7 => output = near(output, chance),
+            8 => {
+                // No columns or no rows, with lengths that fit.
+                e.m = chance.pick(&[0, e.m]);
+                e.n = if e.m == 0 && chance.once_in(2) { e.n } else { 0 };
+                e.matrix.clear();
+                e.weights.truncate(e.m);
+                output = e.weights.len();
+            }
+            9 => numbers -= numbers.min(chance.between(1, 60) as u128),
+            10 => indices -= indices.min(chance.between(1, 60) as u128),
+            11 if !e.matrix.is_empty() => {
+                let at = chance.below(e.matrix.len());
+                e.matrix[at] = chance.pick(&[f64::NAN, 1.0000000000000002, -1.0000000000000002, f64::INFINITY, -1e300, 1.0]);
+            }
+            12 if !e.weights.is_empty() => {
+                let at = chance.below(e.weights.len());
+                e.weights[at] = chance.pick(&[f64::NAN, f64::INFINITY, f64::NEG_INFINITY, f64::MAX]);
+            }
+            13 => {
+                let all = chance.pick(&[0.0, -0.0, f64::MAX, -f64::MAX]);
+                e.weights.iter_mut().for_each(|w| *w = all);
+            }
+            _ => {}
+        }
+    }
+    let output = Lent::new(output, || chance.word());
+    (e, rule, output, Scratch::new(numbers as usize, indices as usize, chance))
+}
+
+fn main() {
+    let folder = std::env::args().nth(1).expect("the folder of archived ensembles");
+    let mut chance = Chance::new("thinning", 3);
+    let mut all = Comparison {
+        domain: Domain::new(),
+        answers: Tally::new("thinning"),
+        outside: Tally::rare("thinning, outside the domain"),
+        original: Tally::new("the original's stages and its own calls"),
+        scratch: Tally::new("thinning, scratch wiped"),
+        inputs: Tally::new("thinning, inputs kept"),
+        refusals: Tally::new("thinning, refusals"),
+        pairs: Tally::new("thinning, pairs of jobs"),
+    };
+    let some = |how_many: usize, m: usize, n: usize, all: &mut Comparison, chance: &mut Chance| {
+        for _ in 0..count(how_many) {
+            let e = ensemble(chance.between(1, m), chance.between(1, n), chance);
+            let rules = rules(&e, chance);
+            all.jobs(&e, &rules, chance);
+        }
+    };
+    some(2000, 16, 24, &mut all, &mut chance);
+    some(600, 48, 64, &mut all, &mut chance);
+    some(40, 128, 256, &mut all, &mut chance);
+    some(6, 256, 1000, &mut all, &mut chance);
+    let mut large = ensemble(256, 4096, &mut chance);
+    large.weights = (0..256).map(|_| chance.unit() + 0.5).collect();
+    all.jobs(&large, &[Rule::Target(4), Rule::Within(0.25, None)], &mut chance);
+    for face in faces::faces(&folder) {
+        let e = Ensemble { matrix: face.margins, m: face.m, n: face.n, weights: face.weights, seed: chance.word() };
+        all.jobs(&e, &[Rule::Target(4), Rule::Target(16), Rule::Within(0.2, None), Rule::Within(0.05, Some(20))], &mut chance);
+    }
+    for _ in 0..count(6000) {
+        let (e, rule, output, scratch) = spoiled(&mut chance);
+        all.refused(&e, rule, output, scratch);
+    }
+    for (m, n) in [(257, 1), (1, 4097), (256, 1), (1, 4096)] {
+        let e = ensemble(m, n, &mut chance);
+        let output = Lent::new(m, || chance.word());
+        all.refused(&e, Rule::Target(2), output, Scratch::enough(m, n, &mut chance));
+    }
+    all.domain.tell();
+    end(&[&all.answers, &all.outside, &all.original, &all.scratch, &all.inputs, &all.refusals, &all.pairs])
+}
