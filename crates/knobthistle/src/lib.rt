@@ -1,10 +1,13 @@
 // The C interface: nothing but exported calls. include/knobthistle.h declares them.
 use draw::SplitMix64;
+use margins::max_margin_change;
+use margins::turned_words;
 ghost use mathlib.Core.Path.{_≡_};
 ghost use Rattle.ieee.specs.Root.{sqrtOf};
 ghost use Rattle.draw.specs.SplitMix.{outputOf, afterOf};
 ghost use Rattle.draw.specs.Uniform.{uniformOf};
 ghost use Rattle.draw.specs.Gaussian.{lnOfDraw, cosOfDraw, gaussianOf, afterGaussian};
+ghost use Rattle.margins.specs.Answers.{changeAnswer, turnedAnswer};
 
 // The next uniform draw; the state moves on.
 #[no_mangle]
@@ -48,4 +51,38 @@ pub extern "C" fn knob_cos_draw(word: u64) -> f64
     ensures { λ r. ⌜ r ≡ cosOfDraw word ⌝ }
 {
     draw::cos_of(word)
+}
+
+// The largest change of a margin, written to `change`; the number.
+#[no_mangle]
+pub extern "C" fn knob_max_margin_change(
+    matrix: &[f64],
+    m: usize,
+    n: usize,
+    before: &[f64],
+    after: &[f64],
+    change: &mut f64,
+) -> u64
+    ensures { λ r. ⌜ (r ≡ changeAnswer (now (matrix .entry)) m n (now (before .entry)) (now (after .entry)) .number) × (now (change .exit) ≡ changeAnswer (now (matrix .entry)) m n (now (before .entry)) (now (after .entry)) .change) ⌝ }
+{
+    let a = max_margin_change(matrix, m, n, before, after);
+    *change = a.change;
+    a.number
+}
+
+// How many words turn, written to `count`; the number.
+#[no_mangle]
+pub extern "C" fn knob_turned_words(
+    matrix: &[f64],
+    m: usize,
+    n: usize,
+    before: &[f64],
+    after: &[f64],
+    count: &mut u64,
+) -> u64
+    ensures { λ r. ⌜ (r ≡ turnedAnswer (now (matrix .entry)) m n (now (before .entry)) (now (after .entry)) .number) × (now (count .exit) ≡ turnedAnswer (now (matrix .entry)) m n (now (before .entry)) (now (after .entry)) .count) ⌝ }
+{
+    let a = turned_words(matrix, m, n, before, after);
+    *count = a.count;
+    a.number
 }

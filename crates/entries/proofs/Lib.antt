@@ -1,0 +1,3 @@
+-- Laws of the entries and of the rows, for every crate above.
+pub mod Reading
+pub mod Ranking

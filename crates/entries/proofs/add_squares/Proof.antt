@@ -1,0 +1,105 @@
+-- `entries::add_squares` meets its contract: the loop fills the rows of the column, and the one under them takes |s|.
+use borrow.Author.Needs.{needs}
+use Prim.Native.Nat.{_-_, _≤_}
+use native.Mathlib.Omega.{arith}
+use lib.Ieee.{nan}
+use lib.ListN.{length}
+use Rattle.seq.proofs.Filling.{Filled, start, turn, still, whole}
+use Rattle.entries.specs.Entries.{scaledAt}
+use Rattle.entries.specs.Kernels.{squaredAt}
+use Rattle.entries.proofs.Reading.{scaled-own, scaled-under}
+use Rattle.entries.proofs.add_squares.Statement.{statement}
+use Rattle.entries.proofs.add_squares.Tie as tie
+
+abbrev Inv-loop : tie.InvT-loop
+Inv-loop acc₀ column s i₀ acc i = Filled (squaredAt (scaledAt column s) acc₀) acc₀ i acc × (i ≤ length column)
+
+abbrev μ-loop : tie.MeasureT-loop
+μ-loop acc₀ column s i₀ acc i = length column - i
+
+loop-holds : tie.Need-loop-holds Inv-loop μ-loop
+loop-holds c = (start _ _, omega arith)
+
+mul-e : tie.Need-mul-e Inv-loop μ-loop
+mul-e c = search needs
+
+shared-slice-read-e : tie.Need-shared-slice-read-e Inv-loop μ-loop
+shared-slice-read-e c = search needs
+
+mul-acc : tie.Need-mul-acc Inv-loop μ-loop
+mul-acc c = search needs
+
+slice-read-acc : tie.Need-slice-read-acc Inv-loop μ-loop
+slice-read-acc c = search needs
+
+mul-acc-2 : tie.Need-mul-acc-2 Inv-loop μ-loop
+mul-acc-2 c = search needs
+
+slice-write-acc : tie.Need-slice-write-acc Inv-loop μ-loop
+slice-write-acc c = search needs
+
+add-i : tie.Need-add-i Inv-loop μ-loop
+add-i c = search needs
+
+loop-less : tie.Need-loop-less Inv-loop μ-loop
+loop-less c = search needs
+
+loop-again : tie.Need-loop-again Inv-loop μ-loop
+loop-again c =
+    let v = c .before .before .before .loop .inv .0 in
+    (turn v (omega arith) (rw (still v (omega arith) nan, scaled-own _ _ _ (c .before .before .loop-test .taken))), omega arith)
+
+abs-requires : tie.Need-abs-requires Inv-loop μ-loop
+abs-requires c κs = search needs
+
+mul-acc-3 : tie.Need-mul-acc-3 Inv-loop μ-loop
+mul-acc-3 c = search needs
+
+slice-read-acc-2 : tie.Need-slice-read-acc-2 Inv-loop μ-loop
+slice-read-acc-2 c = search needs
+
+mul-acc-4 : tie.Need-mul-acc-4 Inv-loop μ-loop
+mul-acc-4 c = search needs
+
+slice-write-acc-2 : tie.Need-slice-write-acc-2 Inv-loop μ-loop
+slice-write-acc-2 c = search needs
+
+same-length : tie.Need-same-length Inv-loop μ-loop
+same-length c = search needs
+
+returns : tie.Need-returns Inv-loop μ-loop
+returns c =
+    let v = c .before .before .before .before .loop .inv .0 in
+    whole (turn v (omega arith) (rw (still v (omega arith) nan, scaled-under _ _ _ (c .before .before .before .loop-test .left), c .before .abs .ensures))) (omega arith)
+
+same-length-2 : tie.Need-same-length-2 Inv-loop μ-loop
+same-length-2 c = search needs
+
+returns-2 : tie.Need-returns-2 Inv-loop μ-loop
+returns-2 c = whole (c .before .before .loop .inv .0) (omega arith)
+
+pub add-squares-spec : {M : Type 1} → statement M
+add-squares-spec =
+    tie.close
+    (tie.spec
+    Inv-loop
+    μ-loop
+    loop-holds
+    mul-e
+    shared-slice-read-e
+    mul-acc
+    slice-read-acc
+    mul-acc-2
+    slice-write-acc
+    add-i
+    loop-less
+    loop-again
+    abs-requires
+    mul-acc-3
+    slice-read-acc-2
+    mul-acc-4
+    slice-write-acc-2
+    same-length
+    returns
+    same-length-2
+    returns-2)

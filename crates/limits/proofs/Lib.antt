@@ -1,0 +1,2 @@
+-- What the tests of the sizes say.
+pub mod Sizes

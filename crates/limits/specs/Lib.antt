@@ -1,0 +1,3 @@
+-- Sizes, and what is refused for them.
+pub mod Limits
+pub mod Matrix

@@ -1,0 +1,34 @@
+-- How large a matrix may be, how much scratch it asks for, and how large its entries may be.
+use Prim.Native.Nat.{ℕ, zero, suc, _+_, _*_}
+use mathlib.Core.Bool.{Bool, true, _&&_, _||_}
+use mathlib.Core.List.{List}
+use lib.Dec.{ltb}
+use lib.ListN.{length}
+use lib.Ieee.{Float, le}
+use Rattle.seq.specs.Sums.{at}
+use Rattle.ieee.specs.Magnitude.{absOf}
+
+-- more than 256 columns or 4096 rows
+abbrev pub tooLarge : ℕ → ℕ → Bool
+tooLarge m n = ltb 256 m || ltb 4096 n
+
+-- how long the number scratch has to be, for m columns and n rows
+abbrev pub numbersNeeded : ℕ → ℕ → ℕ
+numbersNeeded m n = m * (n + 1) + m * m + 16 * m + 8 * (n + 1)
+
+-- how long the index scratch has to be
+abbrev pub indicesNeeded : ℕ → ℕ → ℕ
+indicesNeeded m n = 8 * (m + n + 1)
+
+-- a scratch of these lengths is too short
+abbrev pub scratchShort : ℕ → ℕ → ℕ → ℕ → Bool
+scratchShort m n numbers indices = ltb numbers (numbersNeeded m n) || ltb indices (indicesNeeded m n)
+
+-- every one of 0, .., k - 1 passes
+unfoldable pub allTo : (ℕ → Bool) → ℕ → Bool
+allTo f zero = true
+allTo f (suc k) = allTo f k && f k
+
+-- every entry is at most so large in magnitude; a NaN is not
+abbrev pub bounded : Float → List Float → Bool
+bounded most u = allTo (λ i. le (absOf (at u i)) most) (length u)

@@ -1,0 +1,33 @@
+// Sizes, and what is refused for them.
+use ieee::abs;
+ghost use mathlib.Core.Path.{_≡_};
+ghost use Prim.Native.Nat.{_≤_};
+ghost use Rattle.limits.specs.Limits.{tooLarge, scratchShort, bounded};
+
+// Whether there are more than 256 columns or 4096 rows.
+pub fn too_large(m: usize, n: usize) -> bool
+    ensures { λ r. ⌜ r ≡ tooLarge m n ⌝ }
+{
+    m > 256 || n > 4096
+}
+
+// Whether a scratch of so many numbers or so many indices is too short for m columns and n rows.
+pub fn scratch_short(m: usize, n: usize, numbers: usize, indices: usize) -> bool
+    requires { ⌜ (m ≤ 256) × (n ≤ 4096) ⌝ }
+    ensures { λ r. ⌜ r ≡ scratchShort m n numbers indices ⌝ }
+{
+    numbers < m * (n + 1) + m * m + 16 * m + 8 * (n + 1) || indices < 8 * (m + n + 1)
+}
+
+// Whether every entry is at most so large in magnitude; a NaN is not.
+pub fn all_bounded(u: &[f64], most: f64) -> bool
+    ensures { λ r. ⌜ r ≡ bounded most (now (u .entry)) ⌝ }
+{
+    let mut ok = true;
+    let mut i = 0usize;
+    while i < u.len() {
+        ok = ok & (abs(u[i]) <= most);
+        i += 1;
+    }
+    ok
+}

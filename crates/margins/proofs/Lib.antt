@@ -1,0 +1,6 @@
+-- Laws of blocks of rows, and what the definitions say of a small case.
+pub mod Stretches
+pub mod Columns
+pub mod Refusals
+pub mod Unique
+pub mod SmallCase

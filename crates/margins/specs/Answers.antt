@@ -1,0 +1,32 @@
+-- What the two public calls answer for every argument.
+use Prim.Native.Nat.{ℕ, _*_}
+use mathlib.Core.Bool.{not, _||_}
+use mathlib.Core.List.{List}
+use lib.Dec.{eqb}
+use lib.ListN.{length}
+use lib.Ieee.{Float}
+use Rattle.seq.specs.Choice.{pick}
+use Rattle.seq.specs.Sums.{plusZero}
+use Rattle.limits.specs.Limits.{tooLarge}
+use Rattle.limits.specs.Matrix.{columnsOf}
+use Rattle.margins.specs.Margins.{maxChange, turnedCount}
+use Rattle.margins.specs.declared.Change.{Change}
+use Rattle.margins.specs.declared.Turned.{Turned}
+
+-- 3 too large, 4 another length than m and n say
+unfoldable pub marginFault : List Float → ℕ → ℕ → List Float → List Float → ℕ
+marginFault u m n before after =
+    pick (tooLarge m n) 3
+    (pick (not (eqb (length u) (m * n)) || (not (eqb (length before) m) || not (eqb (length after) m))) 4 0)
+
+-- the number, and the change where it is 0
+unfoldable pub changeAnswer : List Float → ℕ → ℕ → List Float → List Float → Change
+changeAnswer u m n before after =
+    let number : ℕ = marginFault u m n before after in
+    record { number = number; change = pick (eqb number 0) (maxChange (columnsOf u n) m n before after) plusZero }
+
+-- the number, and the count where it is 0
+unfoldable pub turnedAnswer : List Float → ℕ → ℕ → List Float → List Float → Turned
+turnedAnswer u m n before after =
+    let number : ℕ = marginFault u m n before after in
+    record { number = number; count = pick (eqb number 0) (turnedCount (columnsOf u n) m n before after) 0 }

@@ -1,0 +1,23 @@
+-- What the functions on blocks of rows say to each other.
+use Prim.Native.Nat.{ℕ, zero, suc, _*_, _≤_}
+use mathlib.Core.Path.{_≡_}
+use mathlib.Core.List.{List}
+use lib.ListN.{length}
+use lib.Ieee.{Float, binary64, add, mul}
+use Rattle.seq.specs.Sums.{at}
+use Rattle.ieee.specs.Magnitude.{absOf, largerOf}
+
+-- acc + column s
+abbrev pub plusAt : List Float → Float → List Float → ℕ → Float
+plusAt column s acc i = add binary64 (at acc i) (mul binary64 (at column i) s)
+
+-- the largest magnitude of v 0, .., v (k - 1) from one that was found before, a NaN skipped
+unfoldable pub maxAbsFrom : Float → (ℕ → Float) → ℕ → Float
+maxAbsFrom s v zero = s
+maxAbsFrom s v (suc k) = largerOf (maxAbsFrom s v k) (absOf (v k))
+
+-- a matrix of m columns of n rows, of the sizes that are taken
+pub record Lent (u : List Float) (m n : ℕ) : Type 0 where
+  pub whole : length u ≡ m * n
+  pub few : m ≤ 256
+  pub short : n ≤ 4096
