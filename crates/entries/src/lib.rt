@@ -80,7 +80,7 @@ pub fn less_column(ax: &mut [f64], column: &[f64], s: f64, t: f64)
 
 // The entry at row i of column p.
 fn entry(u: &[f64], n: usize, cols: &[u32], scale: &[f64], p: usize, i: usize) -> f64
-    requires { ⌜ Chosen (now u) n (now cols) (now scale) (i + 1) × (p < length (now cols)) ⌝ }
+    requires { ⌜ Chosen (now u) n (now cols) (now scale) n × (p < length (now cols)) ⌝ }
     ensures { λ r. ⌜ r ≡ entryOf (now (u .entry)) n (now (cols .entry)) (now (scale .entry)) p i ⌝ }
 {
     let s = scale[p];
@@ -94,7 +94,7 @@ fn entry(u: &[f64], n: usize, cols: &[u32], scale: &[f64], p: usize, i: usize) -
 
 // Row i, an entry for each column.
 pub fn row_into(v: &mut [f64], u: &[f64], n: usize, cols: &[u32], scale: &[f64], i: usize)
-    requires { ⌜ Chosen (now u) n (now cols) (now scale) (i + 1) × (length (now v) ≡ length (now cols)) ⌝ }
+    requires { ⌜ Chosen (now u) n (now cols) (now scale) n × (length (now v) ≡ length (now cols)) ⌝ }
     ensures { λ _. ⌜ now (v .exit) ≡ rowOf (entryOf (now (u .entry)) n (now (cols .entry)) (now (scale .entry))) (length (now (cols .entry))) i ⌝ }
 {
     let mut p = 0usize;

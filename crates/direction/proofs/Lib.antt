@@ -1,0 +1,2 @@
+-- Laws of a direction and of the step along it.
+pub mod Turning

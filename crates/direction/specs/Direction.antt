@@ -1,0 +1,53 @@
+-- A direction: drawn for all l places, projected, then zeroed at the frozen ones. z is what a sum starts from.
+use Prim.Native.Nat.{ℕ, zero, suc}
+use mathlib.Core.Bool.{Bool}
+use mathlib.Core.List.{List}
+use lib.ListN.{length}
+use lib.Ieee.{Float, binary64, mul, neg, le, lt}
+use Rattle.seq.specs.Choice.{pick}
+use Rattle.seq.specs.Lists.{tabulate}
+use Rattle.seq.specs.Sums.{plusZero, sumTo, at}
+use Rattle.draw.specs.Gaussian.{gaussianOf, afterGaussian}
+use Rattle.linear.specs.Vectors.{dotOf, normOf}
+use Rattle.linear.specs.Basis.{projected}
+use Rattle.direction.specs.Constants.{degenerate}
+use Rattle.entries.specs.Rows.{isSet}
+
+-- the generator's state after k draws
+unfoldable pub afterDraws : ℕ → ℕ → ℕ
+afterDraws rng zero = rng
+afterDraws rng (suc k) = afterGaussian (afterDraws rng k)
+
+-- the draw after k others
+unfoldable pub drawAt : ℕ → ℕ → Float
+drawAt rng k = gaussianOf (afterDraws rng k)
+
+-- l draws
+abbrev pub drawn : ℕ → ℕ → List Float
+drawn rng l = tabulate (drawAt rng) l
+
+-- g with 0.0 at each place that is not free
+abbrev pub zeroedAt : List ℕ → List Float → ℕ → Float
+zeroedAt free g p = pick (isSet free p) (at g p) plusZero
+
+unfoldable pub zeroed : List ℕ → List Float → List Float
+zeroed free g = tabulate (zeroedAt free g) (length g)
+
+-- the draws d projected, and zeroed at the frozen places
+unfoldable pub directed : Float → List (List Float) → List ℕ → List Float → List Float
+directed z basis free d = zeroed free (projected z basis d)
+
+-- g is too short beside the draws d
+unfoldable pub tooShort : Float → List Float → List Float → Bool
+tooShort z d g = le (normOf z g) (mul binary64 degenerate (normOf z d))
+
+-- the direction increases the norm of A x to first order
+unfoldable pub uphill : Float → List Float → List Float → Bool
+uphill z ax ag = lt plusZero (dotOf z ax ag)
+
+-- each entry negated where the direction is uphill
+abbrev pub turnedAt : Bool → List Float → ℕ → Float
+turnedAt t v i = pick t (neg (at v i)) (at v i)
+
+unfoldable pub turned : Bool → List Float → List Float
+turned t v = tabulate (turnedAt t v) (length v)

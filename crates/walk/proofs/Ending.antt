@@ -1,0 +1,184 @@
+-- A phase ends: each step that goes on freezes a coordinate, so the free ones become fewer, and more fuel changes nothing.
+use Prim.Native.Nat.{ℕ, zero, suc, _+_, _≤_, _<_}
+use mathlib.Core.Path.{_≡_, refl, sym, ap, _∙_}
+use mathlib.Core.Bool.{Bool, true, false, not, _&&_, _||_}
+use mathlib.Core.List.{List}
+use native.Mathlib.Omega.{arith}
+use native.Mathlib.Decide.{decLt}
+use borrow.Author.Tests.{ltb-true, lt-ltb, le-ltb, eqb-true}
+use lib.Dec.{ltb, eqb}
+use lib.ListN.{length, getD, set, length-set, List·getD-eq-default}
+use lib.Seq.{getD-set-same, getD-set-other}
+use lib.Ieee.{Float}
+use lib.Ieee.Scale.{finite}
+use Rattle.seq.specs.Choice.{pick}
+use Rattle.seq.specs.Keep.{count}
+use Rattle.seq.specs.Until.{run}
+use Rattle.seq.proofs.Loops.{stays, enough, turns}
+use Rattle.entries.specs.Rows.{isSet, times}
+use Rattle.direction.specs.Direction.{drawn, directed, tooShort, uphill, turned}
+use Rattle.direction.specs.Step.{reachTo}
+use Rattle.walk.specs.Freeze.{Walk, freezes, frozenAt, freezeTo}
+use Rattle.walk.specs.Walk.{Stepped, drew, advanced, steppedAlong, stepOf, ended, freeOnes, left, phaseOf}
+
+-- ---- how many pass a test
+
+pub count-same : (f g : ℕ → Bool) (k : ℕ) → ((i : ℕ) → i < k → f i ≡ g i) → count f k ≡ count g k
+unfolding count
+count-same f g zero h = refl
+count-same f g (suc k) h = rw (count-same f g k (λ i l. h i (omega arith)), h k (omega arith))
+
+-- one fewer, where the tests differ at p alone
+pub count-less : (f g : ℕ → Bool) (p k : ℕ) → f p ≡ true → g p ≡ false → ((i : ℕ) → (i ≡ p → ⊥) → f i ≡ g i) → p < k → count f k ≡ suc (count g k)
+unfolding count
+count-less f g p zero t e h l = absurd (omega arith)
+count-less f g p (suc k) t e h l = go (decLt p k) (count-less f g p k t e h)
+  where
+    last : (b : Bool) (c d : ℕ) → c ≡ suc d → pick b (suc c) c ≡ suc (pick b (suc d) d)
+    last true c d q = ap suc q
+    last false c d q = q
+
+    go : Dec (p < k) → (p < k → count f k ≡ suc (count g k)) → pick (f k) (suc (count f k)) (count f k) ≡ suc (pick (g k) (suc (count g k)) (count g k))
+    go (yes m) r = rw (h k (λ q. absurd (omega arith))) (last (g k) (count f k) (count g k) (r m))
+    go (no m) r =
+        let q : k ≡ p = omega arith in
+        let a : f k ≡ true = ap f q ∙ t in
+        let b : g k ≡ false = ap g q ∙ e in
+        rw (a, b) (ap suc (count-same f g k (λ i j. h i (λ z. absurd (omega arith)))))
+
+pub ones-most : (f : ℕ → Bool) (k : ℕ) → count f k ≤ k
+unfolding count
+ones-most f zero = omega arith
+ones-most f (suc k) = go (f k) (ones-most f k)
+  where
+    go : (t : Bool) → count f k ≤ k → pick t (suc (count f k)) (count f k) ≤ suc k
+    go true h = omega arith
+    go false h = omega arith
+
+-- ---- a coordinate that freezes is one free one fewer
+
+set-inside : (free : List ℕ) (p : ℕ) → isSet free p ≡ true → p < length free
+set-inside free p e = go (decLt p (length free))
+  where
+    go : Dec (p < length free) → p < length free
+    go (yes h) = h
+    go (no h) = absurd (omega (arith, eqb-true (getD free p 0) 1 e, List·getD-eq-default free 0 {n = p} (omega arith)))
+
+pub free-less : (free : List ℕ) (p : ℕ) → isSet free p ≡ true → freeOnes free ≡ suc (freeOnes (set free p 0))
+free-less free p e =
+    let l : p < length free = set-inside free p e in
+    count-less (isSet free) (isSet (set free p 0)) p (length free) e (ap (λ (v : ℕ). eqb v 1) (getD-set-same free p 0 0 l))
+    (λ i h. sym (ap (λ (v : ℕ). eqb v 1) (getD-set-other free p i 0 0 h))) l
+    ∙ ap (λ (k : ℕ). suc (count (isSet (set free p 0)) k)) (sym (length-set free p 0))
+
+and-left : (s t : Bool) → (s && t) ≡ true → s ≡ true
+and-left true t e = refl
+and-left false t e = e
+
+module _ (z : Float) (a : ℕ → ℕ → Float) (l n : ℕ) where
+  -- what freezes and what is free, together
+  abbrev pub both : Walk → ℕ
+  both w = w .frozen + freeOnes (w .free)
+
+  pub frozen-sum : (w : Walk) (p : ℕ) → freezes w p ≡ true → both (frozenAt z a l n w p) ≡ both w
+  unfolding frozenAt
+  frozen-sum w p e = omega (arith, free-less (w .free) p (and-left (isSet (w .free) p) _ e))
+
+  pub freeze-sum : (w : Walk) (k : ℕ) → both (freezeTo z a l n w k) ≡ both w
+  unfolding freezeTo
+  freeze-sum w zero = refl
+  freeze-sum w (suc k) = go (freezes (freezeTo z a l n w k) k) refl (freeze-sum w k)
+    where
+      go : (t : Bool) → freezes (freezeTo z a l n w k) k ≡ t → both (freezeTo z a l n w k) ≡ both w
+          → both (pick t (frozenAt z a l n (freezeTo z a l n w k) k) (freezeTo z a l n w k)) ≡ both w
+      go true e h = frozen-sum (freezeTo z a l n w k) k e ∙ h
+      go false e h = h
+
+  -- a step keeps them together, and where it goes on more are frozen
+  pub record Sound (w : Walk) (s : Stepped) : Type 0 where
+    pub together : both (s .walk) ≡ both w
+    pub more-frozen : s .more ≡ true → w .frozen < s .walk .frozen
+
+  none-sound : (w : Walk) → Sound w (record { more = false; walk = drew l w })
+  none-sound w = record { together = refl; more-frozen = λ e. absurd (let q : _≡_ {A = ℕ} 0 1 = ap (λ (b : Bool). pick b 1 0) e in omega arith) }
+
+  pick-sound : (t : Bool) (w : Walk) (s o : Stepped) → Sound w s → Sound w o → Sound w (pick t s o)
+  pick-sound true w s o p q = p
+  pick-sound false w s o p q = q
+
+  along-sound : (w : Walk) (g : List Float) → Sound w (steppedAlong z a l n w g)
+  unfolding steppedAlong
+  along-sound w g =
+      let ag : List Float = times z a l n g in
+      let up : Bool = uphill z (w .ax) ag in
+      let t : Float = reachTo (w .x) (turned up g) (w .free) l in
+      let v : Walk = freezeTo z a l n (advanced l w t (turned up g) (turned up ag)) l in
+      pick-sound (finite t) w (record { more = ltb (w .frozen) (v .frozen); walk = v }) (record { more = false; walk = drew l w })
+      (record { together = freeze-sum (advanced l w t (turned up g) (turned up ag)) l; more-frozen = ltb-true (w .frozen) (v .frozen) })
+      (none-sound w)
+
+  pub step-sound : (w : Walk) → Sound w (stepOf z a l n w)
+  unfolding stepOf
+  step-sound w =
+      pick-sound (tooShort z (drawn (w .rng) l) (directed z (w .basis) (w .free) (drawn (w .rng) l))) w (record { more = false; walk = drew l w })
+      (steppedAlong z a l n w (directed z (w .basis) (w .free) (drawn (w .rng) l)))
+      (none-sound w) (along-sound w _)
+
+  -- ---- what is left falls with each step
+
+  abbrev pub next : Stepped → Stepped
+  next s = stepOf z a l n (s .walk)
+
+  or-false : (s t : Bool) → (not s || t) ≡ false → s ≡ true
+  or-false true t e = refl
+  or-false false t e = sym e
+
+  pub falls : (s : Stepped) → ended l s ≡ false → left (next s) < left s
+  falls s e = rw (or-false (s .more) (not (ltb (length (s .walk .basis)) l)) e) (go (next s .more) refl (step-sound (s .walk)))
+    where
+      go : (t : Bool) → next s .more ≡ t → Sound (s .walk) (next s) → pick t (suc (freeOnes (next s .walk .free))) 0 < suc (freeOnes (s .walk .free))
+      go true h p = omega (arith, p .together, p .more-frozen h)
+      go false h p = omega arith
+
+  -- more fuel changes nothing
+  pub fuel : (k : ℕ) (s : Stepped) → left s ≤ k → run (ended l) next k s ≡ run (ended l) next (left s) s
+  fuel k s h = enough (ended l) next left falls k (left s) s h (omega arith)
+
+  -- the last step of a phase says that it ends
+  pub ends : (k : ℕ) (s : Stepped) → left s ≤ k → ended l (run (ended l) next k s) ≡ true
+  unfolding run
+  ends zero s h = go (ended l s) refl
+    where
+      go : (t : Bool) → ended l s ≡ t → ended l s ≡ true
+      go true e = e
+      go false e = absurd (omega (arith, falls s e))
+  ends (suc k) s h = go (ended l s) refl (ends k (next s))
+    where
+      go : (t : Bool) → ended l s ≡ t → (left (next s) ≤ k → ended l (run (ended l) next k (next s)) ≡ true) → ended l (pick t s (run (ended l) next k (next s))) ≡ true
+      go true e r = e
+      go false e r = r (omega (arith, falls s e))
+
+  -- ---- the ways of the loop over the steps
+
+  goes-on : (w : Walk) → length (w .basis) < l → ended l (record { more = true; walk = w }) ≡ false
+  goes-on w h = rw (lt-ltb (length (w .basis)) l h)
+
+  pub phase-full : (w : Walk) → l ≤ length (w .basis) → phaseOf z a l n w ≡ w
+  unfolding phaseOf
+  phase-full w h =
+      ap (λ (s : Stepped). s .walk) (stays (ended l) next left falls (left (record { more = true; walk = w })) (record { more = true; walk = w }) (rw (le-ltb (length (w .basis)) l h)))
+
+  stepped-path : (s : Stepped) (t : Bool) → s .more ≡ t → s ≡ record { more = t; walk = s .walk }
+  stepped-path s t e = λ i. record { more = e i; walk = s .walk }
+
+  pub phase-on : (w : Walk) → length (w .basis) < l → stepOf z a l n w .more ≡ true → phaseOf z a l n w ≡ phaseOf z a l n (stepOf z a l n w .walk)
+  unfolding phaseOf
+  phase-on w h e =
+      ap (λ (s : Stepped). s .walk) (turns (ended l) next left falls (record { more = true; walk = w }) (goes-on w h))
+      ∙ ap (λ (s : Stepped). run (ended l) next (left s) s .walk) (stepped-path (stepOf z a l n w) true e)
+
+  pub phase-last : (w : Walk) → length (w .basis) < l → stepOf z a l n w .more ≡ false → phaseOf z a l n w ≡ stepOf z a l n w .walk
+  unfolding phaseOf
+  phase-last w h e =
+      ap (λ (s : Stepped). s .walk) (turns (ended l) next left falls (record { more = true; walk = w }) (goes-on w h))
+      ∙ ap (λ (s : Stepped). s .walk) (stays (ended l) next left falls (left (stepOf z a l n w)) (stepOf z a l n w) (rw e))

@@ -1,0 +1,12 @@
+-- The laws of the walk.
+pub mod Scratch
+pub mod Freezing
+pub mod Starting
+pub mod Advancing
+pub mod Stepping
+pub mod Ending
+pub mod Phases
+pub mod SameEntries
+pub mod Pairs
+pub mod Divisors
+pub mod Starts

@@ -1,0 +1,173 @@
+-- Laws of the loop over the steps: what is left of the phase from here is the whole phase, until a step ends it or the basis is full.
+use Prim.Native.Nat.{ℕ, zero, suc, _+_, _≤_, _<_}
+use mathlib.Core.Path.{_≡_, refl, sym, ap, ap₂, subst, _∙_}
+use mathlib.Core.Bool.{Bool, true, false}
+use mathlib.Core.List.{List}
+use native.Mathlib.Omega.{arith}
+use lib.Dec.{ltb}
+use lib.ListN.{length, getD, drop}
+use lib.Ieee.{Float}
+use lib.Ieee.Scale.{finite}
+use Rattle.seq.specs.Choice.{pick}
+use Rattle.seq.specs.Lists.{repeated}
+use Rattle.seq.specs.Sums.{plusZero}
+use Rattle.seq.proofs.Filling.{length-tab}
+use Rattle.linear.proofs.Bases.{length-vectors, inserted-most}
+use Rattle.entries.specs.Rows.{times, isSet, rowOf, firstRows}
+use Rattle.direction.specs.Direction.{drawn, directed, tooShort, uphill, turned}
+use Rattle.direction.specs.Step.{reachTo}
+use Rattle.walk.specs.Freeze.{Walk, freezeTo}
+use Rattle.walk.specs.Walk.{Stepped, drew, advanced, steppedAlong, stepOf, freeOnes, phaseOf, blockTo, begun}
+use Rattle.walk.specs.Held.{axIn, basisIn, held, Roomy}
+use Rattle.walk.specs.Walking.{Begun, StepHolds}
+use Rattle.walk.specs.declared.Went.{Went}
+use Rattle.walk.proofs.Scratch.{walk-path}
+use Rattle.walk.proofs.Freezing.{freeze-most, count-most}
+use Rattle.walk.proofs.Ending.{ones-most, both, step-sound, phase-full, phase-on, phase-last}
+
+-- a step keeps the basis within l
+module _ (z : Float) (a : ℕ → ℕ → Float) (l n : ℕ) (w : Walk) (fits : length (w .basis) ≤ l) where
+  pick-fits : (t : Bool) (s o : Stepped) → length (s .walk .basis) ≤ l → length (o .walk .basis) ≤ l → length (pick t s o .walk .basis) ≤ l
+  pick-fits true s o p q = p
+  pick-fits false s o p q = q
+
+  along-most : (g : List Float) → length (steppedAlong z a l n w g .walk .basis) ≤ l
+  unfolding steppedAlong
+  along-most g =
+      let ag : List Float = times z a l n g in
+      let up : Bool = uphill z (w .ax) ag in
+      let t : Float = reachTo (w .x) (turned up g) (w .free) l in
+      let v : Walk = freezeTo z a l n (advanced l w t (turned up g) (turned up ag)) l in
+      pick-fits (finite t) (record { more = ltb (w .frozen) (v .frozen); walk = v }) (record { more = false; walk = drew l w })
+      (freeze-most z a l n (advanced l w t (turned up g) (turned up ag)) l fits) fits
+
+  pub step-most : length (stepOf z a l n w .walk .basis) ≤ l
+  unfolding stepOf
+  step-most =
+      pick-fits (tooShort z (drawn (w .rng) l) (directed z (w .basis) (w .free) (drawn (w .rng) l))) (record { more = false; walk = drew l w })
+      (steppedAlong z a l n w (directed z (w .basis) (w .free) (drawn (w .rng) l))) fits (along-most _)
+
+-- what holds between two steps
+pub record Going (a : ℕ → ℕ → Float) (l : ℕ) (num₀ : List Float) (blocked₀ : List ℕ) (x₀ : List Float) (free₀ : List ℕ) (g₀ v₀ : List Float) (start : Walk)
+    (num : List Float) (blocked : List ℕ) (x : List Float) (free : List ℕ) (g v : List Float) (count frozen rng : ℕ) : Type 0 where
+  pub roomy : Roomy l num blocked x free count
+  pub nums : length num ≡ length num₀
+  pub rows : length blocked ≡ length blocked₀
+  pub xs : length x ≡ length x₀
+  pub frees : length free ≡ length free₀
+  pub gs : length g ≡ length g₀
+  pub vs : length v ≡ length v₀
+  pub few : frozen + freeOnes free ≤ l
+  pub same : phaseOf plusZero a l (length blocked₀) (held num blocked x free count frozen rng) ≡ phaseOf plusZero a l (length blocked₀) start
+
+module _ (a : ℕ → ℕ → Float) (l : ℕ) (num₀ : List Float) (blocked₀ : List ℕ) (x₀ : List Float) (free₀ : List ℕ) (g₀ v₀ : List Float) where
+  pub going-start : (count frozen rng : ℕ) → Roomy l num₀ blocked₀ x₀ free₀ count → frozen ≡ 0
+      → Going a l num₀ blocked₀ x₀ free₀ g₀ v₀ (held num₀ blocked₀ x₀ free₀ count frozen rng) num₀ blocked₀ x₀ free₀ g₀ v₀ count frozen rng
+  going-start count frozen rng r e =
+      record {
+        roomy = r;
+        nums = refl;
+        rows = refl;
+        xs = refl;
+        frees = refl;
+        gs = refl;
+        vs = refl;
+        few = omega (arith, ones-most (isSet free₀) (length free₀), r .marks);
+        same = refl;
+      }
+
+  module _ (start : Walk) (num : List Float) (blocked : List ℕ) (x : List Float) (free : List ℕ) (g v : List Float) (count frozen rng : ℕ)
+      (i : Going a l num₀ blocked₀ x₀ free₀ g₀ v₀ start num blocked x free g v count frozen rng) where
+    abbrev n : ℕ
+    n = length blocked₀
+
+    abbrev now-at : Walk
+    now-at = held num blocked x free count frozen rng
+
+    -- the number of vectors is the count
+    counted : length (now-at .basis) ≡ count
+    counted = length-vectors (length x) count (drop (length blocked + length blocked + length blocked) num)
+
+    pub going-full : l ≤ count → now-at ≡ phaseOf plusZero a l n start
+    going-full h = sym (phase-full plusZero a l n now-at (omega (arith, counted))) ∙ i .same
+
+    module _ (num' : List Float) (blocked' : List ℕ) (x' : List Float) (free' : List ℕ) (s : Went) (short : count < l)
+        (given : StepHolds num' blocked' x' free' s (stepOf plusZero a l (length blocked) now-at)) where
+      abbrev next-at : Walk
+      next-at = held num' blocked' x' free' (s .at .count) (s .at .frozen) (s .at .rng .state)
+
+      abbrev one : Stepped
+      one = stepOf plusZero a l n now-at
+
+      here : StepHolds num' blocked' x' free' s one
+      here = subst (λ (k : ℕ). StepHolds num' blocked' x' free' s (stepOf plusZero a l k now-at)) (i .rows) given
+
+      pub going-last : s .more ≡ false → next-at ≡ phaseOf plusZero a l n start
+      going-last e =
+          here .walk ∙ sym (phase-last plusZero a l n now-at (omega (arith, counted)) (sym (here .more) ∙ e)) ∙ i .same
+
+      together : s .at .frozen + freeOnes free' ≡ frozen + freeOnes free
+      together = ap (both plusZero a l n) (here .walk) ∙ step-sound plusZero a l n now-at .together
+
+      pub fewer-free : s .more ≡ true → freeOnes free' < freeOnes free
+      fewer-free e =
+          let f : s .at .frozen ≡ one .walk .frozen = ap (λ (w : Walk). w .frozen) (here .walk) in
+          omega (arith, together, f, step-sound plusZero a l n now-at .more-frozen (sym (here .more) ∙ e))
+
+      pub going-on : (g' v' : List Float) → s .more ≡ true
+          → length num' ≡ length num → length blocked' ≡ length blocked → length x' ≡ length x → length free' ≡ length free → length g' ≡ length g → length v' ≡ length v
+          → Going a l num₀ blocked₀ x₀ free₀ g₀ v₀ start num' blocked' x' free' g' v' (s .at .count) (s .at .frozen) (s .at .rng .state)
+      going-on g' v' e ln lb lx lf lg lv =
+          let q : Roomy l num blocked x free count = i .roomy in
+          record {
+            roomy = record {
+              room = omega (arith, ln, lb, q .room);
+              wide = lx ∙ q .wide;
+              marks = lf ∙ q .marks;
+              most = count-most l (s .at .count) num' blocked' x' free' (s .at .frozen) (s .at .rng .state) (one .walk) (here .walk)
+                  (step-most plusZero a l n now-at (omega (arith, counted)));
+            };
+            nums = ln ∙ i .nums;
+            rows = lb ∙ i .rows;
+            xs = lx ∙ i .xs;
+            frees = lf ∙ i .frees;
+            gs = lg ∙ i .gs;
+            vs = lv ∙ i .vs;
+            few = omega (arith, together, i .few);
+            same = ap (phaseOf plusZero a l n) (here .walk) ∙ sym (phase-on plusZero a l n now-at (omega (arith, counted)) (sym (here .more) ∙ e)) ∙ i .same;
+          }
+
+-- ---- the whole phase
+
+pub block-most : (z : Float) (a : ℕ → ℕ → Float) (l : ℕ) (rows : List ℕ) (k : ℕ) → length (blockTo z a l rows k) ≤ l
+unfolding blockTo
+block-most z a l rows zero = omega arith
+block-most z a l rows (suc k) = inserted-most z l (blockTo z a l rows k) (rowOf a l (getD rows k 0)) (block-most z a l rows k)
+
+module _ (a : ℕ → ℕ → Float) (l : ℕ) (num : List Float) (blocked : List ℕ) (x : List Float) (free : List ℕ) (num' : List Float) (blocked' free' : List ℕ) (count : ℕ)
+    (room : Roomy l num blocked x free 0) (b : Begun a l num (length blocked) count num' blocked') (ln : length num' ≡ length num) (lb : length blocked' ≡ length blocked)
+    (ef : free' ≡ repeated 1 (length free)) where
+  abbrev rows-of : ℕ
+  rows-of = length blocked
+
+  pub start-held : (rng : ℕ) → held num' blocked' x free' count 0 rng ≡ begun plusZero a l rows-of x (axIn rows-of num) rng
+  unfolding begun
+  start-held rng =
+      walk-path refl (ef ∙ ap (repeated 1) (room .marks)) refl (ap (λ (k : ℕ). axIn k num') lb ∙ b .ax) (b .marks)
+      (ap₂ (λ (k m : ℕ). basisIn k m count num') lb (room .wide) ∙ b .basis) refl
+
+  pub start-room : Roomy l num' blocked' x free' count
+  start-room =
+      let first : List ℕ = firstRows plusZero a l rows-of (axIn rows-of num) in
+      let c : count ≡ length (blockTo plusZero a l first (length first)) =
+      sym (length-vectors l count (drop (rows-of + rows-of + rows-of) num')) ∙ ap length (b .basis) in
+      record {
+        room = omega (arith, ln, lb, room .room);
+        wide = room .wide;
+        marks = ap length ef ∙ length-tab _ (length free) ∙ room .marks;
+        most = omega (arith, c, block-most plusZero a l first (length first));
+      }
+
+  pub phase-is : (w : Walk) (rng : ℕ) → w ≡ phaseOf plusZero a l (length blocked') (held num' blocked' x free' count 0 rng)
+      → w ≡ phaseOf plusZero a l rows-of (begun plusZero a l rows-of x (axIn rows-of num) rng)
+  phase-is w rng e = e ∙ ap₂ (phaseOf plusZero a l) lb (start-held rng)

@@ -1,0 +1,61 @@
+-- What a walk holds within a phase, and how its coordinates freeze.
+use Prim.Native.Nat.{ℕ, zero, suc, _+_}
+use mathlib.Core.Bool.{Bool, _&&_}
+use mathlib.Core.List.{List, []}
+use lib.Dec.{ltb, eqb}
+use lib.ListN.{length, set}
+use lib.Ieee.{Float, le}
+use Rattle.seq.specs.Choice.{pick}
+use Rattle.seq.specs.Lists.{tabulate, repeated}
+use Rattle.seq.specs.Sums.{plusZero, at}
+use Rattle.ieee.specs.Magnitude.{absOf, signumOf}
+use Rattle.linear.specs.Basis.{inserted}
+use Rattle.direction.specs.Constants.{one, freezeLimit}
+use Rattle.entries.specs.Rows.{rowOf, isSet, worstTo}
+
+-- The coordinates of the phase's l columns, which of them are free, how many froze in this phase, A x,
+-- which rows are blocked, the basis that directions are projected out of, and the generator.
+pub record Walk : Type 0 where
+  pub x : List Float
+  pub free : List ℕ
+  pub frozen : ℕ
+  pub ax : List Float
+  pub blocked : List ℕ
+  pub basis : List (List Float)
+  pub rng : ℕ
+
+-- the vector with 1.0 at p
+abbrev pub axis : ℕ → ℕ → List Float
+axis l p = set (repeated plusZero l) p one
+
+-- a free coordinate that is near enough to 1 or -1
+abbrev pub freezes : Walk → ℕ → Bool
+freezes w p = isSet (w .free) p && le freezeLimit (absOf (at (w .x) p))
+
+-- the basis with row i blocked: of n rows and l columns
+abbrev pub blocking : Float → (ℕ → ℕ → Float) → ℕ → ℕ → List (List Float) → List (List Float)
+blocking z a l i basis = inserted z l basis (rowOf a l i)
+
+-- Coordinate p snapped and frozen, with its axis in the basis; then the worst row that is not blocked is blocked,
+-- where there is one and the basis is short of l.
+unfoldable pub frozenAt : Float → (ℕ → ℕ → Float) → ℕ → ℕ → Walk → ℕ → Walk
+frozenAt z a l n w p =
+    let basis : List (List Float) = inserted z l (w .basis) (axis l p) in
+    let row : ℕ = worstTo (w .ax) (w .blocked) n n in
+    let room : Bool = ltb row n && ltb (length basis) l in
+    record {
+      x = set (w .x) p (signumOf (at (w .x) p));
+      free = set (w .free) p 0;
+      frozen = w .frozen + 1;
+      ax = w .ax;
+      blocked = pick room (set (w .blocked) row 1) (w .blocked);
+      basis = pick room (blocking z a l row basis) basis;
+      rng = w .rng;
+    }
+
+-- the walk after the coordinates below k were looked at, in order
+unfoldable pub freezeTo : Float → (ℕ → ℕ → Float) → ℕ → ℕ → Walk → ℕ → Walk
+freezeTo z a l n w zero = w
+freezeTo z a l n w (suc k) =
+    let v : Walk = freezeTo z a l n w k in
+    pick (freezes v k) (frozenAt z a l n v k) v

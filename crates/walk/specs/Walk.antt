@@ -1,0 +1,104 @@
+-- A phase of the walk, on its l columns: rows are blocked, then steps are made until one ends the phase.
+use Prim.Native.Nat.{ℕ, zero, suc}
+use mathlib.Core.Bool.{Bool, true, false, not, _||_}
+use mathlib.Core.List.{List, [], _∷_}
+use lib.Dec.{ltb}
+use lib.ListN.{length, getD, set}
+use lib.Ieee.{Float}
+use Rattle.seq.specs.Choice.{pick}
+use Rattle.seq.specs.Lists.{tabulate, repeated}
+use Rattle.seq.specs.Keep.{count}
+use Rattle.seq.specs.Until.{run}
+use lib.Ieee.Scale.{finite}
+use Rattle.entries.specs.Rows.{firstRows, isSet}
+use Rattle.direction.specs.Direction.{afterDraws, drawn, directed, tooShort, uphill, turned}
+use Rattle.entries.specs.Rows.{times}
+use Rattle.direction.specs.Step.{reachTo, moved, along}
+use Rattle.walk.specs.Freeze.{Walk, blocking, freezeTo}
+
+-- the basis after the first k of some rows were blocked, in order
+unfoldable pub blockTo : Float → (ℕ → ℕ → Float) → ℕ → List ℕ → ℕ → List (List Float)
+blockTo z a l rows zero = []
+blockTo z a l rows (suc k) = blocking z a l (getD rows k 0) (blockTo z a l rows k)
+
+-- marks that are set at the first k of some rows
+unfoldable pub marksTo : ℕ → List ℕ → ℕ → List ℕ
+marksTo n rows zero = repeated 0 n
+marksTo n rows (suc k) = set (marksTo n rows k) (getD rows k 0) 1
+
+-- a phase's start at x and A x: every coordinate is free, and the first rows are blocked
+unfoldable pub begun : Float → (ℕ → ℕ → Float) → ℕ → ℕ → List Float → List Float → ℕ → Walk
+begun z a l n x ax rng =
+    let rows : List ℕ = firstRows z a l n ax in
+    record {
+      x = x;
+      free = repeated 1 l;
+      frozen = 0;
+      ax = ax;
+      blocked = marksTo n rows (length rows);
+      basis = blockTo z a l rows (length rows);
+      rng = rng;
+    }
+
+-- a walk, and whether its phase goes on
+pub record Stepped : Type 0 where
+  pub more : Bool
+  pub walk : Walk
+
+-- the walk with its generator moved on by l draws
+abbrev pub drew : ℕ → Walk → Walk
+drew l w = record {
+  x = w .x;
+  free = w .free;
+  frozen = w .frozen;
+  ax = w .ax;
+  blocked = w .blocked;
+  basis = w .basis;
+  rng = afterDraws (w .rng) l;
+}
+
+-- the walk moved by t along g, whose product with the matrix is ag
+abbrev pub advanced : ℕ → Walk → Float → List Float → List Float → Walk
+advanced l w t g ag = record {
+  x = moved t (w .x) g (w .free);
+  free = w .free;
+  frozen = w .frozen;
+  ax = along t (w .ax) ag;
+  blocked = w .blocked;
+  basis = w .basis;
+  rng = afterDraws (w .rng) l;
+}
+
+-- The step along g: as far as x stays in [-1, 1]. A step that is not finite is none; one that freezes nothing is the phase's last.
+unfoldable pub steppedAlong : Float → (ℕ → ℕ → Float) → ℕ → ℕ → Walk → List Float → Stepped
+steppedAlong z a l n w g =
+    let ag : List Float = times z a l n g in
+    let up : Bool = uphill z (w .ax) ag in
+    let t : Float = reachTo (w .x) (turned up g) (w .free) l in
+    let v : Walk = freezeTo z a l n (advanced l w t (turned up g) (turned up ag)) l in
+    pick (finite t) (record { more = ltb (w .frozen) (v .frozen); walk = v }) (record { more = false; walk = drew l w })
+
+-- One step: a direction is drawn, projected and zeroed at the frozen places; where too little is left of it, the phase ends.
+unfoldable pub stepOf : Float → (ℕ → ℕ → Float) → ℕ → ℕ → Walk → Stepped
+stepOf z a l n w =
+    let d : List Float = drawn (w .rng) l in
+    let g : List Float = directed z (w .basis) (w .free) d in
+    pick (tooShort z d g) (record { more = false; walk = drew l w }) (steppedAlong z a l n w g)
+
+-- the phase ends: the last step said so, or the basis is full
+abbrev pub ended : ℕ → Stepped → Bool
+ended l s = not (s .more) || not (ltb (length (s .walk .basis)) l)
+
+-- how many coordinates of the phase are free: what a step that goes on makes smaller
+abbrev pub freeOnes : List ℕ → ℕ
+freeOnes free = count (isSet free) (length free)
+
+-- how many steps can still be made
+abbrev pub left : Stepped → ℕ
+left s = pick (s .more) (suc (freeOnes (s .walk .free))) 0
+
+-- a whole phase
+unfoldable pub phaseOf : Float → (ℕ → ℕ → Float) → ℕ → ℕ → Walk → Walk
+phaseOf z a l n w =
+    let s : Stepped = record { more = true; walk = w } in
+    run (ended l) (λ s. stepOf z a l n (s .walk)) (left s) s .walk
