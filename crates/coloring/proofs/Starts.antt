@@ -1,0 +1,118 @@
+-- What a sum starts from, +0.0 or -0.0, alters no colour: until the walk ends it can alter only the sign of zeros, and at the end no coordinate is a zero.
+use Prim.Native.Nat.{ℕ, zero, suc, _<_}
+use mathlib.Core.Path.{_≡_, refl, sym, ap, subst}
+use mathlib.Core.Logic.{inl, inr}
+use mathlib.Core.Bool.{not}
+use mathlib.Core.List.{List}
+use lib.Dec.{T, eqb}
+use lib.ListN.{length, getD}
+use lib.Seq.{ext-getD}
+use lib.Ieee.{Float, nan, ofBits}
+use Rattle.seq.specs.Lists.{repeated}
+use Rattle.seq.specs.Sums.{plusZero, minusZero, at}
+use Rattle.seq.specs.Keep.{keep}
+use Rattle.ieee.specs.Flat.{Alike, isZero}
+use Rattle.ieee.proofs.Alikes.{alike-refl, le-alike, pick-alike}
+use Rattle.ieee.proofs.Equality.{alike-nonzero}
+use Rattle.entries.specs.Rows.{isSet}
+use Rattle.direction.specs.Constants.{one, minusOne}
+use Rattle.walk.specs.Freeze.{Walk}
+use Rattle.walk.specs.Walk.{begun, phaseOf, freeOnes}
+use Rattle.walk.proofs.Pairs.{each-length, each-at, each-set, each-tab, each-tabs, pick-both, run-both}
+use Rattle.walk.proofs.Starts.{AlikeList, AlikeWalk, at-alike, same-list, begun-alike, phase-alike}
+use Rattle.coloring.specs.Coloring.{Between, chosen, putBack, roundedAt, roundedOff, phased, settled, walked, coloringOf}
+use Rattle.coloring.proofs.Marked.{Colour}
+use Rattle.coloring.proofs.Colours.{Coloured, walk-colours}
+
+-- equal but for the sign of zeros
+pub record AlikeBetween (b b' : Between) : Type 0 where
+  pub x : AlikeList (b .x) (b' .x)
+  pub free : b .free ≡ b' .free
+  pub ax : AlikeList (b .ax) (b' .ax)
+  pub rng : b .rng ≡ b' .rng
+
+-- ---- what adds nothing up
+
+chosen-alike : {v v' : List Float} (places : List ℕ) → AlikeList v v' → AlikeList (chosen v places) (chosen v' places)
+chosen-alike {v} {v'} places p =
+    each-tab (λ i. at v (getD places i 0)) (λ i. at v' (getD places i 0)) (length places) (λ i. at-alike p (getD places i 0))
+
+back-alike : {values values' v v' : List Float} (places : List ℕ) → AlikeList values values' → AlikeList v v' → (k : ℕ)
+    → AlikeList (putBack plusZero places values v k) (putBack plusZero places values' v' k)
+unfolding putBack
+back-alike places p q zero = q
+back-alike places p q (suc k) = each-set (back-alike places p q k) (getD places k 0) (each-at plusZero (alike-refl plusZero) p k)
+
+rounded-alike : {b b' : Between} → AlikeBetween b b' → AlikeBetween (roundedOff b) (roundedOff b')
+rounded-alike {b} {b'} r =
+    record {
+      x = each-tabs (roundedAt (b .x) (b .free)) (roundedAt (b' .x) (b' .free)) (each-length (r .x))
+          (λ j. pick-alike {t = isSet (b .free) j} {t' = isSet (b' .free) j} (ap (λ (free : List ℕ). isSet free j) (r .free))
+          (pick-alike (le-alike (alike-refl plusZero) (at-alike (r .x) j)) (alike-refl one) (alike-refl minusOne)) (at-alike (r .x) j));
+      free = ap (λ (free : List ℕ). repeated 0 (length free)) (r .free);
+      ax = r .ax;
+      rng = r .rng;
+    }
+
+settled-same : (b b' : Between) → AlikeBetween b b' → settled b ≡ settled b'
+settled-same b b' r = ap (λ (free : List ℕ). eqb (freeOnes free) 0) (r .free)
+
+-- ---- the walk, with sums from a zero z and from +0.0
+
+module _ (z : Float) (start : Alike z plusZero) (a : ℕ → ℕ → Float) (k n : ℕ) where
+  -- a phase on the same free columns
+  inside-alike : {x x' ax ax' : List Float} (free : List ℕ) (rng : ℕ) → AlikeList x x' → AlikeList ax ax'
+      → AlikeBetween (phased z a k n (record { x = x; free = free; ax = ax; rng = rng })) (phased plusZero a k n (record { x = x'; free = free; ax = ax'; rng = rng }))
+  unfolding phased
+  inside-alike {x} {x'} {ax} {ax'} free rng p q =
+      let phase : List ℕ = keep (isSet free) k in
+      let l : ℕ = length phase in
+      let inside : ℕ → ℕ → Float = λ p. a (getD phase p 0) in
+      let w : Walk = phaseOf z inside l n (begun z inside l n (chosen x phase) ax rng) in
+      let w' : Walk = phaseOf plusZero inside l n (begun plusZero inside l n (chosen x' phase) ax' rng) in
+      let r : AlikeWalk w w' = phase-alike z start inside l n (begun-alike z start inside l n rng (chosen-alike phase p) q) in
+      let after : Between = record { x = putBack plusZero phase (w .x) x l; free = putBack 0 phase (w .free) free l; ax = w .ax; rng = w .rng } in
+      let after' : Between = record { x = putBack plusZero phase (w' .x) x' l; free = putBack 0 phase (w' .free) free l; ax = w' .ax; rng = w' .rng } in
+      let s : AlikeBetween after after' = record {
+        x = back-alike phase (r .x) p l;
+        free = ap (λ (values : List ℕ). putBack 0 phase values free l) (r .free);
+        ax = r .ax;
+        rng = r .rng;
+      } in
+      pick-both AlikeBetween (ap (λ (m : ℕ). eqb m 0) (r .frozen)) (λ _. rounded-alike s) s
+
+  phased-alike : (b b' : Between) → AlikeBetween b b' → AlikeBetween (phased z a k n b) (phased plusZero a k n b')
+  phased-alike b b' r = rw (r .free, r .rng) (inside-alike (b' .free) (b' .rng) (r .x) (r .ax))
+
+  pub walked-alike : (rng : ℕ) → AlikeBetween (walked z a k n rng) (walked plusZero a k n rng)
+  unfolding walked
+  walked-alike rng =
+      let b : Between = record { x = repeated plusZero k; free = repeated 1 k; ax = repeated plusZero n; rng = rng } in
+      run-both AlikeBetween settled (phased z a k n) (phased plusZero a k n) settled-same phased-alike refl b b
+      (record { x = same-list (repeated plusZero k); free = refl; ax = same-list (repeated plusZero n); rng = refl })
+
+-- ---- the colours
+
+-- vectors without a zero that are alike are equal
+nonzero-same : {v v' : List Float} → AlikeList v v' → ((j : ℕ) → j < length v → T (not (isZero (at v j)))) → v ≡ v'
+nonzero-same {v} {v'} p h = ext-getD nan v v' (each-length p) (λ j l. alike-nonzero (at-alike p j) (h j l))
+
+colour-nonzero : (x : Float) → Colour x → T (not (isZero x))
+unfolding ofBits
+colour-nonzero x (inl e) = subst (λ (y : Float). T (not (isZero y))) (sym e) tt
+colour-nonzero x (inr e) = subst (λ (y : Float). T (not (isZero y))) (sym e) tt
+
+minus-start : Alike minusZero plusZero
+unfolding ofBits
+minus-start = record { flatly = refl }
+
+-- the same colours and the same generator after them
+module _ (a : ℕ → ℕ → Float) (k n rng : ℕ) where
+  colours-same : walked minusZero a k n rng .x ≡ walked plusZero a k n rng .x
+  colours-same =
+      let c : Coloured k (walked minusZero a k n rng .x) = walk-colours minusZero a k n rng in
+      nonzero-same (walked-alike minusZero minus-start a k n rng .x) (λ j h. colour-nonzero (at (walked minusZero a k n rng .x) j) (c .each j (rw (c .long) at h)))
+
+  pub starts-alike : coloringOf minusZero a k n rng ≡ coloringOf plusZero a k n rng
+  unfolding coloringOf
+  starts-alike = rw (colours-same, walked-alike minusZero minus-start a k n rng .rng)

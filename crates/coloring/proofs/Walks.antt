@@ -1,0 +1,70 @@
+-- The loop of the walk: where it starts, its turns, and where it ends; and what is left to do once it has.
+use Prim.Native.Nat.{ℕ, zero, _≤_, _<_}
+use mathlib.Core.Path.{_≡_, sym, ap, _∙_}
+use mathlib.Core.Logic.{_≢_}
+use mathlib.Core.List.{List, _++_}
+use native.Mathlib.Omega.{arith}
+use borrow.Author.Tests.{eq-eqb, ne-eqb}
+use lib.ListN.{length, take, drop}
+use lib.Seq.{length-take-le, take-at}
+use lib.Ieee.{Float}
+use Rattle.seq.specs.Lists.{repeated}
+use Rattle.seq.specs.Sums.{plusZero}
+use Rattle.seq.specs.Until.{run}
+use Rattle.seq.proofs.Filling.{length-tab}
+use Rattle.seq.proofs.Loops.{turns, stays}
+use Rattle.entries.specs.Rows.{times}
+use Rattle.walk.specs.Walk.{freeOnes}
+use Rattle.coloring.specs.Coloring.{Between, phased, settled, walked, coloringOf}
+use Rattle.coloring.specs.Search.{searched}
+use Rattle.coloring.specs.Phasing.{between, Fresh}
+use Rattle.walk.specs.Held.{Roomy}
+use Rattle.coloring.proofs.Phases.{falls}
+
+module _ (z : Float) (a : ℕ → ℕ → Float) (k n : ℕ) where
+  -- what is left of the walk from b
+  abbrev pub onward : Between → Between
+  onward b = run settled (phased z a k n) (freeOnes (b .free)) b
+
+  pub walk-begun : (rng : ℕ) (num x : List Float) (free : List ℕ) → Fresh k n num x free → walked z a k n rng ≡ onward (between n num x free rng)
+  unfolding walked
+  walk-begun rng num x free f = rw (f .zero, f .all, f .flat)
+
+  module _ (b b' : Between) (next : b' ≡ phased z a k n b) (goes : freeOnes (b .free) ≢ 0) where
+    pub walk-falls : freeOnes (b' .free) < freeOnes (b .free)
+    walk-falls = rw next (falls z a k n b (ne-eqb (freeOnes (b .free)) 0 goes))
+
+    pub walk-turn : onward b ≡ onward b'
+    walk-turn = turns settled (phased z a k n) (λ c. freeOnes (c .free)) (falls z a k n) b (ne-eqb (freeOnes (b .free)) 0 goes) ∙ ap onward (sym next)
+
+  pub walk-over : (b : Between) → freeOnes (b .free) ≡ 0 → onward b ≡ b
+  walk-over b e = stays settled (phased z a k n) (λ c. freeOnes (c .free)) (falls z a k n) (freeOnes (b .free)) b (eq-eqb (freeOnes (b .free)) 0 e)
+
+-- the scratch has room as long as the lengths stay
+pub roomy-still : (k : ℕ) (num num' : List Float) (blocked blocked' : List ℕ) (x x' : List Float) (free free' : List ℕ) → Roomy k num blocked x free 0
+    → length num' ≡ length num → length blocked' ≡ length blocked → length x' ≡ length x → length free' ≡ length free → Roomy k num' blocked' x' free' 0
+roomy-still k num num' blocked blocked' x x' free free' r en eb ex ef =
+    record { room = rw (en, eb) (r .room); wide = ex ∙ r .wide; marks = ef ∙ r .marks; most = omega arith }
+
+-- what stands once x, the front of the scratch and the marks are filled anew is where the walk starts
+pub fresh-is : (k rows : ℕ) (num x x' ys : List Float) (free free' : List ℕ) → length x ≡ k → length free ≡ k → rows ≤ length num
+    → x' ≡ repeated plusZero (length x) → ys ≡ repeated plusZero (length (take rows num)) → free' ≡ repeated 1 (length free)
+    → Fresh k rows (ys ++ drop rows num) x' free'
+fresh-is k rows num x x' ys free free' lx lf h ex ey ef =
+    let m : length (take rows num) ≡ rows = length-take-le rows num h in
+    let y : ys ≡ repeated plusZero rows = ey ∙ ap (repeated plusZero) m in
+    record {
+      zero = ex ∙ ap (repeated plusZero) lx;
+      all = ef ∙ ap (repeated 1) lf;
+      flat = take-at ys (drop rows num) rows (ap length y ∙ length-tab (λ _. plusZero) rows) ∙ y;
+    }
+
+-- the walk, and local search from its colours
+pub colors : (a : ℕ → ℕ → Float) (k rows rng m r : ℕ) (num x x' : List Float) (free : List ℕ)
+    → between rows num x free r ≡ walked plusZero a k rows rng → m ≡ rows → x' ≡ searched a k x (times plusZero a k m x)
+    → (x' ≡ coloringOf plusZero a k rows rng .x) × (r ≡ coloringOf plusZero a k rows rng .rng)
+unfolding coloringOf
+colors a k rows rng m r num x x' free w e s = (
+  s ∙ ap (λ (i : ℕ). searched a k x (times plusZero a k i x)) e ∙ ap (λ (b : Between). searched a k (b .x) (times plusZero a k rows (b .x))) w,
+  ap (λ (b : Between). b .rng) w,
+)

@@ -1,0 +1,44 @@
+-- What stands in the scratch between two phases, and what a phase leaves.
+use Prim.Native.Nat.{ℕ, _<_}
+use mathlib.Core.Path.{_≡_}
+use mathlib.Core.List.{List}
+use lib.ListN.{length, getD}
+use lib.Ieee.{Float}
+use Rattle.seq.specs.Lists.{tabulate, repeated}
+use Rattle.seq.specs.Sums.{plusZero}
+use Rattle.walk.specs.Freeze.{Walk}
+use Rattle.walk.specs.Walk.{begun, phaseOf}
+use Rattle.coloring.specs.Coloring.{Between, chosen, putBack}
+use Rattle.walk.specs.Held.{axIn}
+
+-- every place is below k
+pub record Below (places : List ℕ) (k : ℕ) : Type 0 where
+  pub below : (p : ℕ) → p < length places → getD places p 0 < k
+
+-- the words of v at some places
+abbrev pub wordsAt : List ℕ → List ℕ → List ℕ
+wordsAt v places = tabulate (λ p. getD v (getD places p 0) 0) (length places)
+
+-- what the scratch and the vectors over the columns hold between two phases
+abbrev pub between : ℕ → List Float → List Float → List ℕ → ℕ → Between
+between rows num x free rng = record { x = x; free = free; ax = axIn rows num; rng = rng }
+
+-- the walk of a phase on the columns at some places
+abbrev pub insideOf : (ℕ → ℕ → Float) → ℕ → List ℕ → ℕ → List Float → List Float → Walk
+insideOf a rows places rng num x =
+    phaseOf plusZero (λ p. a (getD places p 0)) (length places) rows
+    (begun plusZero (λ p. a (getD places p 0)) (length places) rows (chosen x places) (axIn rows num) rng)
+
+-- that phase was made, and its coordinates are back at their places
+pub record PhasedAt (a : ℕ → ℕ → Float) (rows : ℕ) (places : List ℕ) (rng : ℕ) (num x : List Float) (free : List ℕ) (frozen rng' : ℕ) (num' x' : List Float) (free' : List ℕ) : Type 0 where
+  pub froze : frozen ≡ insideOf a rows places rng num x .frozen
+  pub moves : x' ≡ putBack plusZero places (insideOf a rows places rng num x .x) x (length places)
+  pub marks : free' ≡ putBack 0 places (insideOf a rows places rng num x .free) free (length places)
+  pub ax : axIn rows num' ≡ insideOf a rows places rng num x .ax
+  pub draws : rng' ≡ insideOf a rows places rng num x .rng
+
+-- the walk's start: every coordinate 0 and free, and A x 0
+pub record Fresh (k rows : ℕ) (num x : List Float) (free : List ℕ) : Type 0 where
+  pub zero : x ≡ repeated plusZero k
+  pub all : free ≡ repeated 1 k
+  pub flat : axIn rows num ≡ repeated plusZero rows
