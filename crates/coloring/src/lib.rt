@@ -1,7 +1,7 @@
 // The colouring of chosen and scaled columns: phases of the walk until no coordinate is free, then local search.
 use entries::times_into;
 
-mod discrepancy;
+pub mod discrepancy;
 mod search;
 
 use crate::search::local_search;

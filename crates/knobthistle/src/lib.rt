@@ -1,4 +1,5 @@
 // The C interface: nothing but exported calls. include/knobthistle.h declares them.
+use coloring::discrepancy::discrepancy_coloring;
 use draw::SplitMix64;
 use margins::max_margin_change;
 use margins::turned_words;
@@ -7,6 +8,7 @@ ghost use Rattle.ieee.specs.Root.{sqrtOf};
 ghost use Rattle.draw.specs.SplitMix.{outputOf, afterOf};
 ghost use Rattle.draw.specs.Uniform.{uniformOf};
 ghost use Rattle.draw.specs.Gaussian.{lnOfDraw, cosOfDraw, gaussianOf, afterGaussian};
+ghost use Rattle.coloring.specs.Discrepancy.{DiscrepancyColored};
 ghost use Rattle.margins.specs.Answers.{changeAnswer, turnedAnswer};
 
 // The next uniform draw; the state moves on.
@@ -85,4 +87,20 @@ pub extern "C" fn knob_turned_words(
     let a = turned_words(matrix, m, n, before, after);
     *count = a.count;
     a.number
+}
+
+// Colours the columns of a matrix.
+#[no_mangle]
+pub extern "C" fn knob_discrepancy_coloring(
+    matrix: &[f64],
+    m: usize,
+    n: usize,
+    seed: u64,
+    output: &mut [i8],
+    numbers: &mut [f64],
+    indices: &mut [u32],
+) -> u64
+    ensures { λ r. ⌜ DiscrepancyColored (now (matrix .entry)) m n seed (now (output .entry)) (now (numbers .entry)) (now (indices .entry)) r (now (output .exit)) (now (numbers .exit)) (now (indices .exit)) ⌝ }
+{
+    discrepancy_coloring(matrix, m, n, seed, output, numbers, indices)
 }
