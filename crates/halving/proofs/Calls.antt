@@ -1,0 +1,99 @@
+-- What the functions of a pass hand to each other, from what each ensures: the remaining rest and the scratch of a colouring, the rest of the ranking,
+-- and the pass from its two halvings and the division.
+use Prim.Native.Nat.{ℕ, _+_, _-_, _≤_, _<_}
+use mathlib.Core.Path.{_≡_, sym, ap, _∙_}
+use mathlib.Core.Bool.{Bool}
+use mathlib.Core.List.{List}
+use native.Mathlib.Nat.{mul-le-mul}
+use native.Mathlib.Omega.{arith}
+use lib.ListN.{length, getD, take, drop, length-drop}
+use lib.Seq.{length-take-le, take-all}
+use lib.Ieee.{Float}
+use Rattle.seq.specs.Choice.{pick}
+use Rattle.seq.specs.Sums.{plusZero, at}
+use Rattle.seq.specs.Keep.{Pushed}
+use Rattle.seq.proofs.Keeping.{keep-good}
+use Rattle.ieee.specs.Magnitude.{absOf}
+use Rattle.halving.specs.Weights.{isOn, nonzeros, l1Of, sound, normalized}
+use Rattle.halving.specs.Ranking.{support, ranked, keptCount, restOf}
+use Rattle.halving.specs.Halving.{remaining, halvedOnce, halvedTwice, passOf}
+use Rattle.halving.specs.Halves.{Below, Lent, Ready, halvesOf, PassHolds}
+use Rattle.halving.specs.declared.Halves.{Halves}
+use Rattle.halving.proofs.Turns.{those-short, count-short}
+use Rattle.halving.proofs.Once.{every-at, every-those}
+use Rattle.halving.proofs.Rest.{length-ranked, length-rest, rest-some, rest-on}
+
+-- the remaining of indices below n are below n
+pub remaining-below : (w : List Float) (rest : List ℕ) (n : ℕ) → Below rest n → Below (remaining w rest) n
+remaining-below w rest n b = record { below = λ p l. every-at (every-those {P = λ j. j < n} (isOn w) rest (length rest) (b .below)) p l .1 }
+
+-- the remaining rest, as it stands at the front of a buffer, with scratch as long
+pub lent : {u : List Float} {n : ℕ} {w numbers : List Float} {indices rest : List ℕ} {k : ℕ} {some : List ℕ} {scale x : List Float} {blocked : List ℕ}
+    → Ready u n w numbers indices → Below rest (length w) → length rest ≤ length w → Pushed (remaining w rest) k some
+    → length scale ≡ k → length x ≡ k → length blocked ≡ n + 1 → Lent u n w (take k some) scale x numbers blocked
+lent {u} {n} {w} {numbers} {indices} {rest} {k} {some} r b s p es ex eb =
+    let long : length (take k some) ≡ k = length-take-le k some (p .within) in
+    let fewer : k ≤ length w = omega (arith, p .long, those-short (isOn w) rest (length rest)) in
+    record {
+      whole = r .whole;
+      inside = rw (p .front) (remaining-below w rest (length w) b);
+      few = omega (arith, r .few);
+      short = r .short;
+      scales = es ∙ sym long;
+      colours = ex ∙ sym long;
+      floats = rw long (omega (arith, r .floats, mul-le-mul fewer fewer));
+      rows = eb;
+    }
+
+-- after a call that keeps the lengths
+pub ready-still : {u : List Float} {n : ℕ} {w numbers w' numbers' : List Float} {indices indices' : List ℕ} → Ready u n w numbers indices
+    → length w' ≡ length w → length numbers' ≡ length numbers → length indices' ≡ length indices → Ready u n w' numbers' indices'
+ready-still r ew en ei =
+    record {
+      whole = rw ew (r .whole);
+      few = rw ew (r .few);
+      short = r .short;
+      floats = rw (ew, en) (r .floats);
+      words = rw ei (r .words);
+    }
+
+-- ---- the rest
+
+pub support-below : (w : List Float) (some : List ℕ) → some ≡ support w → Below some (length w)
+support-below w some e = rw e (record { below = λ i l. keep-good (isOn w) (length w) i l .1 })
+
+pub rest-below : (w : List Float) (rest : List ℕ) → rest ≡ restOf w → Below rest (length w)
+rest-below w rest e = rw e (record { below = λ p l. rest-on w p l .below })
+
+pub rest-short : (w : List Float) (rest : List ℕ) → rest ≡ restOf w → length rest ≤ length w
+rest-short w rest e = omega (arith, ap length e, length-rest w, count-short (isOn w) (length w))
+
+-- what follows the kept ones in the ranking
+module _ (w : List Float) (order : List ℕ) (kept : ℕ) (e : order ≡ ranked w) (k : kept ≡ keptCount (length order)) where
+  pub rest-lent : take (length order - kept) (drop kept order) ≡ restOf w
+  unfolding restOf
+  rest-lent = take-all (length order - kept) (drop kept order) (omega (arith, length-drop kept order)) ∙ rw (k, e)
+
+  pub rest-lent-some : 2 ≤ nonzeros w → 0 < length (take (length order - kept) (drop kept order))
+  rest-lent-some h = rw rest-lent (rest-some w h)
+
+-- not all are kept
+pub kept-within : (w : List Float) (order : List ℕ) (kept : ℕ) → order ≡ ranked w → kept ≡ keptCount (length order) → 2 ≤ nonzeros w → kept < length order
+kept-within w order kept e k h = let long : length order ≡ nonzeros w = ap length e ∙ length-ranked w in omega arith
+
+-- ---- the pass
+
+pub pass-holds : (u : ℕ → ℕ → Float) (n : ℕ) (w v t out : List Float) (rest : List ℕ) (ω : Float) (a b c : ℕ) (g : Bool) (r : Halves)
+    → rest ≡ restOf w → ω ≡ absOf (at w (getD rest 0 0))
+    → halvesOf v b ≡ halvedOnce plusZero u n ω rest (halvesOf w a)
+    → halvesOf t c ≡ halvedOnce plusZero u n ω rest (halvesOf v b)
+    → g ≡ sound (l1Of plusZero t) → out ≡ pick g (normalized plusZero t) t → r .good ≡ g → r .rng .state ≡ c
+    → PassHolds (passOf plusZero u n (halvesOf w a)) r out
+unfolding passOf halvedTwice
+pass-holds u n w v t out rest ω a b c g r er eo e1 e2 eg ew rg rs =
+    let twice : halvesOf t c ≡ halvedTwice plusZero u n (halvesOf w a) = e2 ∙ ap (halvedOnce plusZero u n ω rest) e1 ∙ rw (eo, er) in
+    record {
+      good = rw (← twice) (rg ∙ eg);
+      rng = rw (← twice) rs;
+      weights = rw (← twice) (λ h. ew ∙ rw (eg ∙ h));
+    }

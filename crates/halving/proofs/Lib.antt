@@ -1,0 +1,12 @@
+-- The laws of a pass.
+pub mod Turns
+pub mod Ordering
+pub mod Once
+pub mod Rest
+pub mod Fates
+pub mod Minority
+pub mod Zeros
+pub mod Fewer
+pub mod Columns
+pub mod Calls
+pub mod Starts

@@ -1,0 +1,71 @@
+-- `halving::halve_twice` meets its contract: the second halving starts from what the first left, with the same rest and the same ω.
+use borrow.Author.Needs.{needs}
+use mathlib.Core.Path.{refl}
+use native.Mathlib.Omega.{arith}
+use Rattle.limits.specs.Matrix.{columnsOf}
+use Rattle.halving.proofs.Calls.{ready-still, rest-below, rest-short, pass-holds}
+use Rattle.halving.proofs.halve_twice.Statement.{statement}
+use Rattle.halving.proofs.halve_twice.Tie as tie
+
+shared-slice-read-heaviest : tie.Need-shared-slice-read-heaviest
+shared-slice-read-heaviest c = search needs
+
+cast-heaviest : tie.Need-cast-heaviest
+cast-heaviest c = omega (arith, c .shared-slice-known3 .given 0)
+
+mul-abs : tie.Need-mul-abs
+mul-abs c = omega (arith, c .shared-slice-known3 .given 0)
+
+slice-read-abs : tie.Need-slice-read-abs
+slice-read-abs c = rest-below (c .before .before .before .before .before .before .before .args .w .now) (c .before .before .before .before .before .before .before .args .rest .now) (c .before .before .before .before .before .before .before .pre .1) .below 0 (c .before .before .before .before .before .before .before .pre .2)
+
+abs-requires : tie.Need-abs-requires
+abs-requires c κs = search needs
+
+halve-requires : tie.Need-halve-requires
+halve-requires c κs =
+    let a = c .before .before .before .before .before .before .before .before .before .before .before .args in
+    let v = c .before .before .before .before .before .before .before .before .before .before .before .pre in
+    (v .0, rest-below (a .w .now) (a .rest .now) (v .1), rest-short (a .w .now) (a .rest .now) (v .1))
+
+halve-requires-2 : tie.Need-halve-requires-2
+halve-requires-2 c κs =
+    let a = c .before .before .before .before .before .before .before .before .before .before .before .before .before .before .before .before .before .before .before .before .before .args in
+    let v = c .before .before .before .before .before .before .before .before .before .before .before .before .before .before .before .before .before .before .before .before .before .pre in
+    let k = c .before .before .before .before .before .before .before .before .before .halve .kept in
+    let long = k .1 .1 .0 in
+    (ready-still (v .0) long (k .1 .1 .1 .1 .1 .0) (k .1 .1 .1 .1 .1 .1 .0), rw long (rest-below (a .w .now) (a .rest .now) (v .1)), rw long (rest-short (a .w .now) (a .rest .now) (v .1)))
+
+normalize-requires : tie.Need-normalize-requires
+normalize-requires c κs = search needs
+
+same-length : tie.Need-same-length
+same-length c = search needs
+
+same-length-2 : tie.Need-same-length-2
+same-length-2 c = search needs
+
+same-length-3 : tie.Need-same-length-3
+same-length-3 c = search needs
+
+returns : tie.Need-returns
+returns c =
+    let a = c .before .before .before .before .before .before .before .before .before .before .before .before .before .before .before .before .before .before .before .before .before .before .before .before .before .before .before .before .before .before .before .before .args in
+    pass-holds (columnsOf (a .matrix .now) (a .n)) (a .n) (a .w .now) _ _ _ (a .rest .now) (c .before .before .before .before .before .before .before .before .before .before .before .before .before .before .before .before .before .before .before .before .before .before .before .before .abs .result) (a .rng .state) _ _ _ _ (c .before .before .before .before .before .before .before .before .before .before .before .before .before .before .before .before .before .before .before .before .before .before .before .before .before .before .before .before .before .before .before .before .pre .1) (c .before .before .before .before .before .before .before .before .before .before .before .before .before .before .before .before .before .before .before .before .before .before .before .before .abs .ensures) (c .before .before .before .before .before .before .before .before .before .before .before .before .before .before .before .before .before .before .before .before .halve .ensures) (c .before .before .before .before .before .before .before .before .before .before .halve2 .ensures) (c .before .before .normalize .ensures .0) (c .before .before .normalize .ensures .1) refl refl
+
+pub halve-twice-spec : {M : Type 1} → statement M
+halve-twice-spec =
+    tie.close
+    (tie.spec
+    shared-slice-read-heaviest
+    cast-heaviest
+    mul-abs
+    slice-read-abs
+    abs-requires
+    halve-requires
+    halve-requires-2
+    normalize-requires
+    same-length
+    same-length-2
+    same-length-3
+    returns)
