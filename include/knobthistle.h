@@ -1,7 +1,7 @@
 /* knobthistle.h: the calls of libknobthistle.a, for C and C++.
 
    Link: cc host.c libknobthistle.a. The archive is for x86-64 Linux. It needs no other library, takes no memory of its own, keeps
-   nothing between calls and never fails: every call below is good for every argument. Each was proved to do what is said here.
+   nothing between calls and never traps: every call below answers for every argument. Each was proved to do what is said here.
 
    A draw's bits are the same on every machine: nothing is left to the platform's mathematical library. They are draw edition 1. */
 
@@ -38,6 +38,52 @@ double knob_log_draw(uint64_t word);
 /* The cosine of t, t being the double TAU (bits 401921FB54442D18) times the uniform number that this output of the generator gives,
    rounded once. Within [-1, 1], and within 2^-45 of the cosine's series. */
 double knob_cos_draw(uint64_t word);
+
+/* ---- Colouring and margins: what all calls share ----
+
+   A matrix of m columns and n rows is one array of m*n doubles, column after column: entry (row i, column j) is matrix[j*n + i].
+   At most 256 columns and 4096 rows. Every array is a pointer and then the number of its elements. No pointer may be null, also
+   where the number is 0, and no array that is written (output, numbers, indices, *change, *count) may overlap another.
+
+   Scratch is lent by the caller and may hold anything before the call:
+     numbers: at least m*(n+1) + m*m + 16*m + 8*(n+1) doubles    (KNOB_NUMBERS)
+     indices: at least 8*(m+n+1) 32-bit numbers                 (KNOB_INDICES)
+   An accepted call leaves all of both zero, whatever their length. Matrix and weights are never changed.
+
+   Each call answers a number: 0 accepted, else the lowest number below that applies and that the call uses.
+
+     no.  given exactly when                                                      coloring  change, turned
+      3   m > 256 or n > 4096                                                        x           x
+      4   matrix, weights, second weights or output has another length               x           x
+          than m and n say
+      6   a scratch is too short                                                     x
+     11   an entry is not finite or above 2^32 in magnitude                          x
+
+   A refusal changes neither output nor scratch, and gives 0 for a change or a count.
+
+   Equal arguments give equal bits, on every machine. */
+
+#define KNOB_NUMBERS(m, n) ((size_t)(m) * ((size_t)(n) + 1) + (size_t)(m) * (size_t)(m) + 16 * (size_t)(m) + 8 * ((size_t)(n) + 1))
+#define KNOB_INDICES(m, n) (8 * ((size_t)(m) + (size_t)(n) + 1))
+
+/* A signing of the columns by 1 and -1 (m of them, written to output) that tries to keep every row's sum of entry times sign small. Entries may
+   be any doubles up to 2^32 in magnitude. The seed starts the generator. Answers 0, 3, 4, 6 or 11. No columns or no rows are fine. */
+uint64_t knob_discrepancy_coloring(const double *matrix, size_t matrix_length, size_t m, size_t n, uint64_t seed,
+                                   int8_t *output, size_t output_length,
+                                   double *numbers, size_t numbers_length, uint32_t *indices, size_t indices_length);
+
+/* The largest change of a row's margin when the weights `before` are replaced by `after`, both used as given: per row the running sum
+   of entry * (before - after) over the columns in order, columns whose difference is 0 left out; then the largest magnitude, NaNs left
+   out, from 0.0. Entries and weights may be any doubles. Answers 0, 3 or 4; *change is 0 on a refusal. */
+uint64_t knob_max_margin_change(const double *matrix, size_t matrix_length, size_t m, size_t n,
+                                const double *before, size_t before_length, const double *after, size_t after_length,
+                                double *change);
+
+/* The number of rows whose margin by `before` is above 0 and by `after` below 0, a margin being the running sum of entry * weight over
+   the columns in order, from 0.0. Answers 0, 3 or 4; *count is 0 on a refusal. */
+uint64_t knob_turned_words(const double *matrix, size_t matrix_length, size_t m, size_t n,
+                           const double *before, size_t before_length, const double *after, size_t after_length,
+                           uint64_t *count);
 
 #ifdef __cplusplus
 }
