@@ -1,0 +1,157 @@
+-- What an accepted job has: an answer's number is 0 exactly where no fault was found before or after, and then sizes, values and rule are as asked for.
+use Prim.Native.Nat.{ℕ, zero, suc, _*_, _≤_, _<_}
+use mathlib.Core.Path.{_≡_, refl, sym, ap, _∙_}
+use mathlib.Core.Bool.{Bool, true, false, not, _||_}
+use mathlib.Core.List.{List}
+use native.Mathlib.Omega.{arith}
+use native.Mathlib.Decide.{decLt}
+use lib.Dec.{T, eqb, ltb, eqb·suc-zero}
+use lib.ListN.{length}
+use lib.Ieee.{Float}
+use lib.Ieee.Scale.{finite}
+use borrow.Author.Tests.{eqb-true, ltb-false, not-false}
+use Rattle.seq.specs.Choice.{pick, orElse}
+use Rattle.seq.specs.Sums.{plusZero, at}
+use Rattle.limits.specs.Limits.{tooLarge, scratchShort, numbersNeeded, indicesNeeded, bounded, allTo}
+use Rattle.direction.specs.Constants.{one}
+use Rattle.halving.specs.Weights.{nonzeros, normalized, l1Of, sound}
+use Rattle.limits.specs.Matrix.{columnsOf}
+use Rattle.sparsification.specs.Stages.{movedBy}
+use Rattle.sparsification.specs.Answers.{refusal, answerOf, lateFor, stopFor, returned, Thinned}
+use Rattle.sparsification.specs.Faults.{ruleFault, sizeFault, valueFault, jobFault}
+use Rattle.sparsification.specs.declared.Answer.{Answer}
+use Rattle.sparsification.specs.declared.Rule.{Rule}
+use Rattle.sparsification.proofs.Choosing.{neither, both, never, shown}
+
+-- the first of two numbers that is not 0
+pub no-fault : (a b : ℕ) → orElse a b ≡ 0 → (a ≡ 0) × (b ≡ 0)
+no-fault zero b h = (refl, h)
+no-fault (suc a) b h = absurd (let g : suc a ≡ 0 = rw (eqb·suc-zero a) at h in omega arith)
+
+-- a refusal's number is not 0
+answered : (fault : ℕ) (a : Answer) → pick (eqb fault 0) a (refusal fault) .number ≡ 0 → (fault ≡ 0) × (a .number ≡ 0)
+answered zero a h = (refl, h)
+answered (suc fault) a h = absurd (let g : suc fault ≡ 0 = rw (eqb·suc-zero fault) at h in omega arith)
+
+answered-late : (late stage k : ℕ) (x : Float) → pick (eqb late 0) (record { number = 0; stage = stage; nonzeros = k; change = x }) (refusal late) .number ≡ 0 → late ≡ 0
+answered-late zero stage k x h = refl
+answered-late (suc late) stage k x h = absurd (let g : suc late ≡ 0 = rw (eqb·suc-zero late) at h in omega arith)
+
+module _ {rule : Rule} {seed : ℕ} {u : List Float} {m n : ℕ} {w output numbers : List Float} {indices : List ℕ} {r : Answer} {output' numbers' : List Float} {indices' : List ℕ}
+    (job : Thinned rule seed u m n w output numbers indices r output' numbers' indices') where
+  -- number 0 is given only where there is no fault
+  pub number-none : r .number ≡ 0 → (jobFault rule u m n w (length output) (length numbers) (length indices) ≡ 0) × (lateFor u n w seed rule ≡ 0)
+  unfolding answerOf
+  number-none h =
+      let a = answered (jobFault rule u m n w (length output) (length numbers) (length indices)) (answerOf u n w seed rule) (sym (ap (λ (x : Answer). x .number) (job .answers)) ∙ h) in
+      (a .0, answered-late (lateFor u n w seed rule) _ _ _ (a .1))
+
+  -- and wherever there is none, with the stage
+  pub answer-there : jobFault rule u m n w (length output) (length numbers) (length indices) ≡ 0 → r ≡ answerOf u n w seed rule
+  answer-there f = job .answers ∙ ap (λ (x : ℕ). pick (eqb x 0) (answerOf u n w seed rule) (refusal x)) f
+
+  pub number-there : jobFault rule u m n w (length output) (length numbers) (length indices) ≡ 0 → lateFor u n w seed rule ≡ 0 → r .number ≡ 0
+  unfolding answerOf
+  number-there f h = rw (answer-there f) (rw h)
+
+  -- the answer and the output then
+  pub answer-stage : jobFault rule u m n w (length output) (length numbers) (length indices) ≡ 0 → lateFor u n w seed rule ≡ 0
+      → r ≡ record {
+        number = 0;
+        stage = stopFor u n w seed rule;
+        nonzeros = nonzeros (returned u n w seed rule .w);
+        change = movedBy (columnsOf u n) n (normalized plusZero w) (returned u n w seed rule);
+      }
+  unfolding answerOf
+  answer-stage f h = answer-there f ∙ rw h
+
+  pub output-stage : r .number ≡ 0 → output' ≡ returned u n w seed rule .w
+  output-stage h = job .writes ∙ rw h
+
+-- every one passes
+pub every : (f : ℕ → Bool) (k : ℕ) → allTo f k ≡ true → (j : ℕ) → j < k → f j ≡ true
+unfolding allTo
+every f zero h j l = absurd (omega arith)
+every f (suc k) h j l =
+    let b = both (allTo f k) (f k) h in
+    go (decLt j k) (b .0) (b .1) (every f k)
+  where
+    go : Dec (j < k) → allTo f k ≡ true → f k ≡ true → (allTo f k ≡ true → (j : ℕ) → j < k → f j ≡ true) → f j ≡ true
+    go (yes g) a b r = r a j g
+    go (no g) a b r = let e : j ≡ k = omega arith in rw e b
+
+-- the values of an accepted job
+pub record Valued (u w : List Float) : Type 0 where
+  pub entries : bounded one u ≡ true
+  pub ends : (j : ℕ) → j < length w → T (finite (at w j))
+  pub total : sound (l1Of plusZero w) ≡ true
+
+pub values-good : (u w : List Float) → valueFault u w ≡ 0 → Valued u w
+unfolding valueFault
+values-good u w h =
+    let a = go (bounded one u) (allTo (λ j. finite (at w j)) (length w)) (sound (l1Of plusZero w)) h in
+    record { entries = a .0; ends = λ j l. shown (finite (at w j)) (every (λ j. finite (at w j)) (length w) (a .1 .0) j l); total = a .1 .1 }
+  where
+    go : (a b c : Bool) → _≡_ {A = ℕ} (pick a (pick b (pick c 0 9) 8) 7) 0 → (a ≡ true) × ((b ≡ true) × (c ≡ true))
+    go true true true h = (refl, (refl, refl))
+    go true true false h = absurd (omega arith)
+    go true false c h = absurd (omega arith)
+    go false b c h = absurd (omega arith)
+
+-- its sizes
+pub record Sized (m n matrix weights output numbers indices : ℕ) : Type 0 where
+  pub few : m ≤ 256
+  pub short : n ≤ 4096
+  pub whole : matrix ≡ m * n
+  pub given : weights ≡ m
+  pub left : output ≡ m
+  pub columns : 0 < m
+  pub rows : 0 < n
+  pub floats : numbersNeeded m n ≤ numbers
+  pub words : indicesNeeded m n ≤ indices
+
+positive : (m : ℕ) → eqb m 0 ≡ false → 0 < m
+positive zero h = never true refl h
+positive (suc m) h = omega arith
+
+pub sizes-good : (m n matrix weights output numbers indices : ℕ) → sizeFault m n matrix weights output numbers indices ≡ 0 → Sized m n matrix weights output numbers indices
+unfolding sizeFault
+sizes-good m n matrix weights output numbers indices h =
+    let a = go (tooLarge m n) (not (eqb matrix (m * n)) || (not (eqb weights m) || not (eqb output m))) (eqb m 0 || eqb n 0) (scratchShort m n numbers indices) h in
+    let b = neither (ltb 256 m) (ltb 4096 n) (a .0) in
+    let c = neither (not (eqb matrix (m * n))) (not (eqb weights m) || not (eqb output m)) (a .1 .0) in
+    let d = neither (not (eqb weights m)) (not (eqb output m)) (c .1) in
+    let e = neither (eqb m 0) (eqb n 0) (a .1 .1 .0) in
+    let f = neither (ltb numbers (numbersNeeded m n)) (ltb indices (indicesNeeded m n)) (a .1 .1 .1) in
+    record {
+      few = ltb-false 256 m (b .0);
+      short = ltb-false 4096 n (b .1);
+      whole = eqb-true matrix (m * n) (not-false (eqb matrix (m * n)) (c .0));
+      given = eqb-true weights m (not-false (eqb weights m) (d .0));
+      left = eqb-true output m (not-false (eqb output m) (d .1));
+      columns = positive m (e .0);
+      rows = positive n (e .1);
+      floats = ltb-false numbers (numbersNeeded m n) (f .0);
+      words = ltb-false indices (indicesNeeded m n) (f .1);
+    }
+  where
+    go : (a b c d : Bool) → _≡_ {A = ℕ} (pick a 3 (pick b 4 (pick c 5 (pick d 6 0)))) 0 → (a ≡ false) × ((b ≡ false) × ((c ≡ false) × (d ≡ false)))
+    go true b c d h = absurd (omega arith)
+    go false true c d h = absurd (omega arith)
+    go false false true d h = absurd (omega arith)
+    go false false false true h = absurd (omega arith)
+    go false false false false h = (refl, (refl, (refl, refl)))
+
+-- all of it
+pub record Accepted (rule : Rule) (u : List Float) (m n : ℕ) (w : List Float) (output numbers indices : ℕ) : Type 0 where
+  pub ruled : ruleFault rule ≡ 0
+  pub sized : Sized m n (length u) (length w) output numbers indices
+  pub valued : Valued u w
+
+pub accepted : (rule : Rule) (u : List Float) (m n : ℕ) (w : List Float) (output numbers indices : ℕ) → jobFault rule u m n w output numbers indices ≡ 0
+    → Accepted rule u m n w output numbers indices
+unfolding jobFault
+accepted rule u m n w output numbers indices h =
+    let a = no-fault (ruleFault rule) (orElse (sizeFault m n (length u) (length w) output numbers indices) (valueFault u w)) h in
+    let b = no-fault (sizeFault m n (length u) (length w) output numbers indices) (valueFault u w) (a .1) in
+    record { ruled = a .0; sized = sizes-good m n (length u) (length w) output numbers indices (b .0); valued = values-good u w (b .1) }

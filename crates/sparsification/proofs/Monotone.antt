@@ -1,0 +1,190 @@
+-- Where a rule that allows at least as much stops, the other stops too: so it stops at the same or a later stage, whose nonzero entries are among
+-- the earlier's. And the stage at which a rule stops keeps what the rule asks for.
+use Prim.Native.Nat.{ℕ, zero, suc, _+_, _-_, _≤_, _<_}
+use mathlib.Core.Path.{_≡_, refl, sym, _∙_}
+use mathlib.Core.Bool.{Bool, true, false, _&&_, _||_}
+use mathlib.Core.List.{List}
+use native.Mathlib.Omega.{arith}
+use native.Mathlib.Decide.{decLt}
+use lib.Dec.{T, leb, ltb}
+use lib.ListN.{length}
+use lib.Ieee.{Float, nan, inf, fin, binary64, fits, le, lt, eq}
+use lib.Ieee.Scale.{finite}
+use borrow.Author.Tests.{leb-true, le-leb, not-false}
+use Rattle.seq.specs.Choice.{pick}
+use Rattle.seq.specs.Sums.{plusZero, at}
+use Rattle.ieee.specs.Units.{isNum}
+use Rattle.ieee.proofs.Ranks.{le-transitive}
+use Rattle.sparsification.specs.Stages.{stageOf, movedBy}
+use Rattle.sparsification.specs.Stopping.{meets, entriesAt, above, rests, breaks, exceeds, stops, stopOf, lateNumber}
+use Rattle.sparsification.specs.Faults.{ruleFault, capFault}
+use Rattle.sparsification.specs.Demand.{asTight, allows, Among}
+use Rattle.sparsification.specs.declared.Cap.{Cap}
+use Rattle.sparsification.specs.declared.Cap.the-variants.{Absent, AtMost}
+use Rattle.sparsification.specs.declared.Rule.{Rule}
+use Rattle.sparsification.specs.declared.Rule.the-variants.{Target, Within}
+use Rattle.sparsification.proofs.Choosing.{neither, one-holds, both, never, weaker-or, weaker-and, weaker-not, shown, holds}
+use Rattle.sparsification.proofs.Halting.{Falls, FirstStop, Goes, goes, stop-is-first}
+use Rattle.sparsification.proofs.Unmoved.{moved-fits, no-change}
+use Rattle.sparsification.proofs.Lengths.{length-stage}
+
+-- the allowance of a rule is a double
+abbrev pub Double : Rule → Type 0
+Double (Target t) = T true
+Double (Within a c) = T (fits binary64 a)
+
+-- both sides of a comparison that holds are numbers
+left-number : (x y : Float) → T (le x y) → T (isNum x)
+unfolding le lt eq
+left-number nan y h = h
+left-number (inf s) y h = tt
+left-number (fin s m e) y h = tt
+
+right-number : (x y : Float) → T (le x y) → T (isNum y)
+unfolding le lt eq
+right-number nan y h = absurd h
+right-number (inf s) nan h = h
+right-number (inf s) (inf t) h = tt
+right-number (inf s) (fin t m e) h = tt
+right-number (fin s m e) nan h = h
+right-number (fin s m e) (inf t) h = tt
+right-number (fin s m e) (fin t k d) h = tt
+
+pub le-through : (x a b : Float) → T (fits binary64 x) → T (fits binary64 a) → T (fits binary64 b) → le a b ≡ true → le x a ≡ true → le x b ≡ true
+le-through x a b X A B h g =
+    holds (le x b)
+    (le-transitive {f = binary64} {x = x} {y = a} {z = b} (record { held = X; num = left-number x a (shown (le x a) g) }) (record { held = A; num = left-number a b (shown (le a b) h) })
+    (record { held = B; num = right-number a b (shown (le a b) h) }) (shown (le x a) g) (shown (le a b) h))
+
+-- a cap that is as tight is met only where the other is
+pub tight-meets : (c d : Cap) (k : ℕ) → asTight c d ≡ true → meets d k ≡ true → meets c k ≡ true
+tight-meets Absent d k h g = refl
+tight-meets (AtMost c) Absent k h g = never false h refl
+tight-meets (AtMost c) (AtMost d) k h g = le-leb k c (omega (arith, leb-true d c h, leb-true k d g))
+
+cap-some : (c : ℕ) → capFault (AtMost c) ≡ 0 → 1 ≤ c
+cap-some zero h = absurd (omega arith)
+cap-some (suc c) h = omega arith
+
+among-self : (w : List Float) → Among w w
+among-self w = record { on = λ j l h. h; above = λ j l h. refl; under = λ j l h. refl }
+
+among-trans : {u v w : List Float} → length v ≡ length u → Among u v → Among v w → Among u w
+among-trans e p q =
+    record {
+      on = λ j l h. p .on j l (q .on j (omega arith) h);
+      above = λ j l h. q .above j (omega arith) h ∙ p .above j l (q .on j (omega arith) h);
+      under = λ j l h. q .under j (omega arith) h ∙ p .under j l (q .on j (omega arith) h);
+    }
+
+module _ (z : Float) (u : ℕ → ℕ → Float) (n : ℕ) (start : List Float) (seed : ℕ) where
+  -- a stage that measures above an allowance measures above a smaller one
+  pub above-less : (a b : Float) (i : ℕ) → T (fits binary64 a) → T (fits binary64 b) → le a b ≡ true → above z u n start seed b i ≡ true → above z u n start seed a i ≡ true
+  above-less a b i A B h g =
+      let x : Float = movedBy u n start (stageOf z u n start seed i) in
+      weaker-not (le x b) (le x a) (le-through x a b (moved-fits u (length start) n start (stageOf z u n start seed i .w)) A B h) g
+
+  pub rests-sooner : (first second : Rule) (i : ℕ) → Double first → Double second → allows first second ≡ true → rests z u n start seed second i ≡ true → rests z u n start seed first i ≡ true
+  rests-sooner (Target t) (Target s) i A B h g =
+      le-leb (entriesAt z u n start seed i) t (omega (arith, leb-true s t h, leb-true (entriesAt z u n start seed i) s g))
+  rests-sooner (Target t) (Within b d) i A B h g = never false h refl
+  rests-sooner (Within a c) (Target s) i A B h g = never false h refl
+  rests-sooner (Within a c) (Within b d) i A B h g =
+      let e = both (le a b) (asTight c d) h in
+      let k : ℕ = entriesAt z u n start seed i in
+      weaker-or (leb k 1) (ltb 0 i && (above z u n start seed b i && meets d k)) (leb k 1) (ltb 0 i && (above z u n start seed a i && meets c k)) (λ y. y)
+      (weaker-and (ltb 0 i) (above z u n start seed b i && meets d k) (ltb 0 i) (above z u n start seed a i && meets c k) (λ y. y)
+      (weaker-and (above z u n start seed b i) (meets d k) (above z u n start seed a i) (meets c k) (above-less a b i A B (e .0)) (tight-meets c d k (e .1)))) g
+
+  pub exceeds-sooner : (first second : Rule) (i : ℕ) → Double first → Double second → allows first second ≡ true → exceeds z u n start seed second i ≡ true
+      → exceeds z u n start seed first i ≡ true
+  exceeds-sooner (Target t) (Target s) i A B h g = g
+  exceeds-sooner (Target t) (Within b d) i A B h g = never false h refl
+  exceeds-sooner (Within a c) (Target s) i A B h g = never false h refl
+  exceeds-sooner (Within a c) (Within b d) i A B h g =
+      let e = both (le a b) (asTight c d) h in
+      let k : ℕ = entriesAt z u n start seed i in
+      weaker-and (meets d k) (above z u n start seed b (suc i)) (meets c k) (above z u n start seed a (suc i)) (tight-meets c d k (e .1)) (above-less a b (suc i) A B (e .0)) g
+
+  pub stops-sooner : (first second : Rule) (i : ℕ) → Double first → Double second → allows first second ≡ true → stops z u n start seed second i ≡ true → stops z u n start seed first i ≡ true
+  stops-sooner first second i A B h =
+      weaker-or (rests z u n start seed second i) (breaks z u n start seed i || exceeds z u n start seed second i) (rests z u n start seed first i) (breaks z u n start seed i || exceeds z u n start seed first i)
+      (rests-sooner first second i A B h)
+      (weaker-or (breaks z u n start seed i) (exceeds z u n start seed second i) (breaks z u n start seed i) (exceeds z u n start seed first i) (λ y. y) (exceeds-sooner first second i A B h))
+
+  -- the second's first stop is no sooner
+  pub no-sooner : (first second : Rule) (k l : ℕ) → Double first → Double second → allows first second ≡ true
+      → FirstStop z u n start seed first k → FirstStop z u n start seed second l → k ≤ l
+  no-sooner first second k l A B h p q = go (decLt l k)
+    where
+      go : Dec (l < k) → k ≤ l
+      go (yes g) = never (stops z u n start seed first l) (stops-sooner first second l A B h (q .there)) (p .before l g)
+      go (no g) = omega arith
+
+  -- each pass up to where the job goes on leaves entries of before, with their signs
+  abbrev pub Signed : Type 0
+  Signed = (i : ℕ) → ((j : ℕ) → j < suc i → Goes z u n start seed j) → Among (stageOf z u n start seed i .w) (stageOf z u n start seed (suc i) .w)
+
+  pub among-stages : Signed → (i d : ℕ) → ((j : ℕ) → j < i + d → Goes z u n start seed j) → Among (stageOf z u n start seed i .w) (stageOf z u n start seed (i + d) .w)
+  among-stages signed i zero g = rw (let e : i + 0 ≡ i = omega arith in e) (among-self (stageOf z u n start seed i .w))
+  among-stages signed i (suc d) g =
+      rw (let e : i + suc d ≡ suc (i + d) = omega arith in e)
+      (among-trans (length-stage z u n start seed (i + d) ∙ sym (length-stage z u n start seed i)) (among-stages signed i d (λ j l. g j (omega arith)))
+      (signed (i + d) (λ j l. g j (omega arith))))
+
+  -- what the stage keeps at which a rule stops, where no pass broke
+  module _ (falls : Falls z u n start seed) where
+    pub among-stops : Signed → (rule : Rule) (k : ℕ) → ruleFault rule ≡ 0 → k ≤ stopOf z u n start seed rule
+        → Among (stageOf z u n start seed k .w) (stageOf z u n start seed (stopOf z u n start seed rule) .w)
+    among-stops signed rule k f h =
+        let l : ℕ = stopOf z u n start seed rule in
+        let e : k + (l - k) ≡ l = omega arith in
+        rw e at (among-stages signed k (l - k) (λ j g. goes z u n start seed rule j f (stop-is-first z u n start seed falls rule f .before j (omega arith))))
+
+    -- it was not a broken pass
+    late-none : (rule : Rule) → ruleFault rule ≡ 0 → lateNumber z u n start seed rule ≡ 0
+        → (rests z u n start seed rule (stopOf z u n start seed rule) || exceeds z u n start seed rule (stopOf z u n start seed rule)) ≡ true
+    late-none rule f h =
+        let k : ℕ = stopOf z u n start seed rule in
+        go (rests z u n start seed rule k) (breaks z u n start seed k) (exceeds z u n start seed rule k) (stop-is-first z u n start seed falls rule f .there) h
+      where
+        go : (a b c : Bool) → (a || (b || c)) ≡ true → _≡_ {A = ℕ} (pick a 0 (pick b 10 0)) 0 → (a || c) ≡ true
+        go true b c e h = refl
+        go false true c e h = absurd (omega arith)
+        go false false c e h = e
+
+    -- at most so many nonzeros
+    pub target-kept : (t : ℕ) → ruleFault (Target t) ≡ 0 → lateNumber z u n start seed (Target t) ≡ 0 → leb (entriesAt z u n start seed (stopOf z u n start seed (Target t))) t ≡ true
+    target-kept t f h =
+        one-holds (rests z u n start seed (Target t) (stopOf z u n start seed (Target t))) false (late-none (Target t) f h) (λ e. e) (λ e g. never false g refl)
+
+    -- the cap
+    pub cap-kept : (a : Float) (c : ℕ) → ruleFault (Within a (AtMost c)) ≡ 0 → lateNumber z u n start seed (Within a (AtMost c)) ≡ 0
+        → leb (entriesAt z u n start seed (stopOf z u n start seed (Within a (AtMost c)))) c ≡ true
+    cap-kept a c f h =
+        let k : ℕ = stopOf z u n start seed (Within a (AtMost c)) in
+        let e : ℕ = entriesAt z u n start seed k in
+        one-holds (rests z u n start seed (Within a (AtMost c)) k) (exceeds z u n start seed (Within a (AtMost c)) k) (late-none (Within a (AtMost c)) f h)
+        (λ r. one-holds (leb e 1) (ltb 0 k && (above z u n start seed a k && leb e c)) r (λ y. le-leb e c (omega (arith, leb-true e 1 y, some (le plusZero a) f)))
+        (λ y g. both (above z u n start seed a k) (leb e c) (both (ltb 0 k) (above z u n start seed a k && leb e c) g .1) .1))
+        (λ r g. both (leb e c) (above z u n start seed a (suc k)) g .0)
+      where
+        some : (t : Bool) → pick t (capFault (AtMost c)) 1 ≡ 0 → 1 ≤ c
+        some true h = cap-some c h
+        some false h = absurd (omega arith)
+
+    -- without a cap, the allowance
+    pub allowance-kept : (a : Float) → ruleFault (Within a Absent) ≡ 0 → ((j : ℕ) → j < length start → T (finite (at start j)))
+        → le (movedBy u n start (stageOf z u n start seed (stopOf z u n start seed (Within a Absent)))) a ≡ true
+    allowance-kept a f h = go (stopOf z u n start seed (Within a Absent)) (stop-is-first z u n start seed falls (Within a Absent) f)
+      where
+        nonnegative : (t : Bool) → pick t (capFault Absent) 1 ≡ 0 → t ≡ true
+        nonnegative true h = refl
+        nonnegative false h = absurd (omega arith)
+
+        go : (k : ℕ) → FirstStop z u n start seed (Within a Absent) k → le (movedBy u n start (stageOf z u n start seed k)) a ≡ true
+        go zero p = unfold stageOf in rw (no-change u n start h) (nonnegative (le plusZero a) f)
+        go (suc k) p =
+            let e = neither (rests z u n start seed (Within a Absent) k) (breaks z u n start seed k || exceeds z u n start seed (Within a Absent) k) (p .before k (omega arith)) in
+            let g = neither (breaks z u n start seed k) (exceeds z u n start seed (Within a Absent) k) (e .1) in
+            not-false (le (movedBy u n start (stageOf z u n start seed (suc k))) a) (g .1)

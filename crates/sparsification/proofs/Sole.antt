@@ -1,0 +1,30 @@
+-- No second answer fits: what a job is promised to leave determines the answer, the output and the scratch.
+use Prim.Native.Nat.{ℕ}
+use mathlib.Core.Path.{_≡_, sym, ap, _∙_}
+use mathlib.Core.List.{List}
+use lib.Dec.{eqb}
+use lib.Ieee.{Float}
+use Rattle.seq.specs.Choice.{pick}
+use Rattle.sparsification.specs.Answers.{returned, Thinned}
+use Rattle.sparsification.specs.declared.Answer.{Answer}
+use Rattle.sparsification.specs.declared.Rule.{Rule}
+
+pub record Same (r s : Answer) (output output' numbers numbers' : List Float) (indices indices' : List ℕ) : Type 0 where
+  pub answer : r ≡ s
+  pub written : output ≡ output'
+  pub floats : numbers ≡ numbers'
+  pub words : indices ≡ indices'
+
+pub sole : {rule : Rule} {seed : ℕ} {u : List Float} {m n : ℕ} {w output numbers : List Float} {indices : List ℕ}
+    {r s : Answer} {output' output'' numbers' numbers'' : List Float} {indices' indices'' : List ℕ}
+    → Thinned rule seed u m n w output numbers indices r output' numbers' indices'
+    → Thinned rule seed u m n w output numbers indices s output'' numbers'' indices''
+    → Same r s output' output'' numbers' numbers'' indices' indices''
+sole {rule} {seed} {u} {m} {n} {w} {output} p q =
+    let e = p .answers ∙ sym (q .answers) in
+    record {
+      answer = e;
+      written = p .writes ∙ ap (λ (x : Answer). pick (eqb (x .number) 0) (returned u n w seed rule .w) output) e ∙ sym (q .writes);
+      floats = p .floats ∙ sym (q .floats);
+      words = p .words ∙ sym (q .words);
+    }

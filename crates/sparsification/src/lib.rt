@@ -1,0 +1,253 @@
+// The thinning: sparsify, sparsify_within, and thin, which takes either's rule in a job.
+mod faults;
+mod paths;
+
+use crate::faults::job_fault;
+use crate::paths::follow;
+use halving::count_nonzeros;
+use halving::normalize;
+use margins::change_of;
+use seq::clear;
+use seq::clear_words;
+use seq::copy;
+ghost use mathlib.Core.Path.{_≡_};
+ghost use lib.ListN.{length};
+ghost use Rattle.seq.specs.Sums.{plusZero};
+ghost use Rattle.sparsification.specs.Answers.{refusal, answerAt, Thinned, ThinnedFrom};
+ghost use Rattle.sparsification.specs.Faults.{ruleFault};
+ghost use Rattle.sparsification.specs.declared.Rule.the-variants.{Target, Within};
+ghost use Rattle.limits.specs.Matrix.{columnsOf};
+ghost use Rattle.margins.specs.Blocks.{Lent};
+ghost use Rattle.halving.specs.Weights.{l1Of, sound, normalized};
+ghost use Rattle.halving.specs.Halves.{Ready};
+ghost use mathlib.Core.Bool.{true};
+
+// How many nonzero entries are allowed, if that is said.
+pub enum Cap {
+    Absent,
+    AtMost(usize),
+}
+
+// When a job stops: at so many nonzero entries, or before a change above the allowance.
+pub enum Rule {
+    Target(usize),
+    Within { allowance: f64, cap: Cap },
+}
+
+// A seed and a rule.
+pub struct Job {
+    pub seed: u64,
+    pub rule: Rule,
+}
+
+// The refusal number or 0, the stage that is returned, its nonzero entries, and its change from the normalized input.
+#[repr(C)]
+pub struct Answer {
+    pub number: u64,
+    pub stage: u64,
+    pub nonzeros: u64,
+    pub change: f64,
+}
+
+// A refusal: its number, and zeros.
+fn refused(number: u64) -> Answer
+    ensures { λ r. ⌜ r ≡ refusal number ⌝ }
+{
+    Answer {
+        number,
+        stage: 0,
+        nonzeros: 0,
+        change: 0.0,
+    }
+}
+
+// Writes the weights that were reached, and answers for them.
+fn finish(
+    matrix: &[f64],
+    n: usize,
+    start: &[f64],
+    w: &[f64],
+    stage: usize,
+    output: &mut [f64],
+) -> Answer
+    requires { ⌜ Lent (now matrix) (length (now start)) n × (length (now w) ≡ length (now start)) × (length (now output) ≡ length (now w)) ⌝ }
+    ensures { λ r. ⌜ (r ≡ answerAt (columnsOf (now (matrix .entry)) n) n (now (start .entry)) stage (now (w .entry))) × (now (output .exit) ≡ now (w .entry)) ⌝ }
+{
+    copy(output, w);
+    Answer {
+        number: 0,
+        stage: stage as u64,
+        nonzeros: count_nonzeros(w) as u64,
+        change: change_of(matrix, n, start, w),
+    }
+}
+
+// Thins from the normalized weights, and wipes the scratch. w and next are room for two vectors.
+fn thin_on(
+    matrix: &[f64],
+    n: usize,
+    start: &[f64],
+    w: &mut [f64],
+    next: &mut [f64],
+    seed: u64,
+    rule: Rule,
+    output: &mut [f64],
+    numbers: &mut [f64],
+    indices: &mut [u32],
+) -> Answer
+    requires { ⌜ Ready (now matrix) n (now start) (now numbers) (now indices) × (length (now w) ≡ length (now start)) × (length (now next) ≡ length (now start)) × (length (now output) ≡ length (now start)) × (ruleFault rule ≡ 0) ⌝ }
+    ensures { λ r. ⌜ ThinnedFrom (columnsOf (now (matrix .entry)) n) n (now (start .entry)) seed rule (now (output .entry)) (now (numbers .entry)) (now (indices .entry)) r (now (output .exit)) (now (numbers .exit)) (now (indices .exit)) ⌝ }
+{
+    copy(&mut w[..], start);
+    let r = follow(
+        matrix,
+        n,
+        start,
+        &mut w[..],
+        next,
+        &mut numbers[..],
+        &mut indices[..],
+        seed,
+        rule,
+    );
+    clear(numbers);
+    clear_words(indices);
+    if !r.good {
+        return refused(10);
+    }
+    finish(matrix, n, start, &w[..], r.stage, output)
+}
+
+// Normalizes the weights of a job that has no fault, and thins from there. start is room for them.
+fn thin_sound(
+    matrix: &[f64],
+    n: usize,
+    weights: &[f64],
+    start: &mut [f64],
+    seed: u64,
+    rule: Rule,
+    output: &mut [f64],
+    numbers: &mut [f64],
+    indices: &mut [u32],
+) -> Answer
+    requires { ⌜ Ready (now matrix) n (now weights) (now numbers) (now indices) × (sound (l1Of plusZero (now weights)) ≡ true) × (length (now start) ≡ length (now weights)) × (length (now output) ≡ length (now weights)) × (ruleFault rule ≡ 0) ⌝ }
+    ensures { λ r. ⌜ ThinnedFrom (columnsOf (now (matrix .entry)) n) n (normalized plusZero (now (weights .entry))) seed rule (now (output .entry)) (now (numbers .entry)) (now (indices .entry)) r (now (output .exit)) (now (numbers .exit)) (now (indices .exit)) ⌝ }
+{
+    let m = weights.len();
+    let mut w = [0.0f64; 256];
+    let mut next = [0.0f64; 256];
+    copy(&mut start[..], weights);
+    normalize(&mut start[..]);
+    thin_on(
+        matrix,
+        n,
+        &start[..],
+        &mut w[..m],
+        &mut next[..m],
+        seed,
+        rule,
+        output,
+        numbers,
+        indices,
+    )
+}
+
+// Thins as the job says: by its target, or within its allowance and cap.
+pub fn thin(
+    matrix: &[f64],
+    m: usize,
+    n: usize,
+    weights: &[f64],
+    job: Job,
+    output: &mut [f64],
+    numbers: &mut [f64],
+    indices: &mut [u32],
+) -> Answer
+    ensures { λ r. ⌜ Thinned (job .rule) (job .seed) (now (matrix .entry)) m n (now (weights .entry)) (now (output .entry)) (now (numbers .entry)) (now (indices .entry)) r (now (output .exit)) (now (numbers .exit)) (now (indices .exit)) ⌝ }
+{
+    let rule = job.rule;
+    let number = job_fault(
+        rule,
+        matrix,
+        m,
+        n,
+        weights,
+        output.len(),
+        numbers.len(),
+        indices.len(),
+    );
+    if number != 0 {
+        return refused(number);
+    }
+    let mut start = [0.0f64; 256];
+    thin_sound(
+        matrix,
+        n,
+        weights,
+        &mut start[..m],
+        job.seed,
+        rule,
+        output,
+        numbers,
+        indices,
+    )
+}
+
+// Thins to at most `target` nonzero entries.
+pub fn sparsify(
+    matrix: &[f64],
+    m: usize,
+    n: usize,
+    weights: &[f64],
+    seed: u64,
+    target: usize,
+    output: &mut [f64],
+    numbers: &mut [f64],
+    indices: &mut [u32],
+) -> Answer
+    ensures { λ r. ⌜ Thinned (Target target) seed (now (matrix .entry)) m n (now (weights .entry)) (now (output .entry)) (now (numbers .entry)) (now (indices .entry)) r (now (output .exit)) (now (numbers .exit)) (now (indices .exit)) ⌝ }
+{
+    thin(
+        matrix,
+        m,
+        n,
+        weights,
+        Job {
+            seed,
+            rule: Rule::Target(target),
+        },
+        output,
+        numbers,
+        indices,
+    )
+}
+
+// Thins as far as no margin moves by more than `allowance`, or as far as the cap asks.
+pub fn sparsify_within(
+    matrix: &[f64],
+    m: usize,
+    n: usize,
+    weights: &[f64],
+    seed: u64,
+    allowance: f64,
+    cap: Cap,
+    output: &mut [f64],
+    numbers: &mut [f64],
+    indices: &mut [u32],
+) -> Answer
+    ensures { λ r. ⌜ Thinned (Within allowance cap) seed (now (matrix .entry)) m n (now (weights .entry)) (now (output .entry)) (now (numbers .entry)) (now (indices .entry)) r (now (output .exit)) (now (numbers .exit)) (now (indices .exit)) ⌝ }
+{
+    thin(
+        matrix,
+        m,
+        n,
+        weights,
+        Job {
+            seed,
+            rule: Rule::Within { allowance, cap },
+        },
+        output,
+        numbers,
+        indices,
+    )
+}
