@@ -39,7 +39,7 @@ double knob_log_draw(uint64_t word);
    rounded once. Within [-1, 1], and within 2^-45 of the cosine's series. */
 double knob_cos_draw(uint64_t word);
 
-/* ---- Colouring and margins: what all calls share ----
+/* ---- Thinning and colouring: what all calls share ----
 
    A matrix of m columns and n rows is one array of m*n doubles, column after column: entry (row i, column j) is matrix[j*n + i].
    At most 256 columns and 4096 rows. Every array is a pointer and then the number of its elements. No pointer may be null, also
@@ -52,19 +52,57 @@ double knob_cos_draw(uint64_t word);
 
    Each call answers a number: 0 accepted, else the lowest number below that applies and that the call uses.
 
-     no.  given exactly when                                                      coloring  change, turned
-      3   m > 256 or n > 4096                                                        x           x
-      4   matrix, weights, second weights or output has another length               x           x
+     no.  given exactly when                                                      sparsify  within  coloring  change, turned
+      1   the allowance is negative or a NaN (-0.0 and infinity are accepted)                  x
+      2   target or cap is 0                                                         x         x
+      3   m > 256 or n > 4096                                                        x         x        x           x
+      4   matrix, weights, second weights or output has another length               x         x        x           x
           than m and n say
-      6   a scratch is too short                                                     x
-     11   an entry is not finite or above 2^32 in magnitude                          x
+      5   m = 0 or n = 0                                                             x         x
+      6   a scratch is too short                                                     x         x        x
+      7   a matrix entry is not in [-1, 1]; a NaN is not                             x         x
+      8   a weight is not finite                                                     x         x
+      9   the sum of the weights' magnitudes, in doubles, is 0 or infinite           x         x
+     10   after a pass that sum is 0 or not finite                                   x         x
+     11   an entry is not finite or above 2^32 in magnitude                                             x
 
-   A refusal changes neither output nor scratch, and gives 0 for a change or a count.
+   A refusal answers its number with 0 in every other field, and changes neither output nor scratch. Number 10 alone is found after
+   work has begun: it changes no output and leaves all scratch zero.
 
    Equal arguments give equal bits, on every machine. */
 
 #define KNOB_NUMBERS(m, n) ((size_t)(m) * ((size_t)(n) + 1) + (size_t)(m) * (size_t)(m) + 16 * (size_t)(m) + 8 * ((size_t)(n) + 1))
 #define KNOB_INDICES(m, n) (8 * ((size_t)(m) + (size_t)(n) + 1))
+
+/* The answer to a thinning job. */
+typedef struct {
+    uint64_t number;   /* 0, or why the job was refused; then the rest is 0 */
+    uint64_t stage;    /* the stage returned: 0 the normalised weights, and one more with each pass that was kept */
+    uint64_t nonzeros; /* the weights returned that are not 0 */
+    double change;     /* the largest change of a row's margin from the normalised weights to those returned */
+} knob_answer;
+
+/* The record is returned as C does on x86-64. On Arm the project's own script oracle/host-archive makes an archive in which such a
+   call takes the address of its answer as its first parameter and returns that address: there declare
+   knob_answer *knob_sparsify(knob_answer *answer, const double *matrix, ..) and so on. */
+
+/* Thins weights to at most `target` nonzeros: the first stage that has no more. The weights are divided by the sum of their
+   magnitudes (stage 0); each pass then keeps the largest third as it is and, of the rest, about a quarter, doubled twice, so that every
+   row's margin, the sum of entry times weight over the columns, stays near what it was. Signs are kept, and a weight that is 0 stays 0.
+   The seed starts the generator, which runs on through all passes. The weights thinned are written to output, m of them. */
+knob_answer knob_sparsify(const double *matrix, size_t matrix_length, size_t m, size_t n,
+                          const double *weights, size_t weights_length, uint64_t seed, size_t target,
+                          double *output, size_t output_length,
+                          double *numbers, size_t numbers_length, uint32_t *indices, size_t indices_length);
+
+/* Thins weights as far as no margin changes by more than `allowance` from stage 0: the last stage before the first that exceeds it, or
+   the one with a single nonzero. If capped is not 0, `cap` comes first: passes go on until at most cap nonzeros are left, even where
+   the allowance is exceeded; see `change` in the answer. If capped is 0 there is no cap, and the value of cap does not matter. */
+knob_answer knob_sparsify_within(const double *matrix, size_t matrix_length, size_t m, size_t n,
+                                 const double *weights, size_t weights_length, uint64_t seed,
+                                 double allowance, uint32_t capped, size_t cap,
+                                 double *output, size_t output_length,
+                                 double *numbers, size_t numbers_length, uint32_t *indices, size_t indices_length);
 
 /* A signing of the columns by 1 and -1 (m of them, written to output) that tries to keep every row's sum of entry times sign small. Entries may
    be any doubles up to 2^32 in magnitude. The seed starts the generator. Answers 0, 3, 4, 6 or 11. No columns or no rows are fine. */

@@ -3,12 +3,19 @@ use coloring::discrepancy::discrepancy_coloring;
 use draw::SplitMix64;
 use margins::max_margin_change;
 use margins::turned_words;
+use sparsification::Answer;
+use sparsification::Cap;
+use sparsification::sparsify;
+use sparsification::sparsify_within;
 ghost use mathlib.Core.Path.{_≡_};
 ghost use Rattle.ieee.specs.Root.{sqrtOf};
 ghost use Rattle.draw.specs.SplitMix.{outputOf, afterOf};
 ghost use Rattle.draw.specs.Uniform.{uniformOf};
 ghost use Rattle.draw.specs.Gaussian.{lnOfDraw, cosOfDraw, gaussianOf, afterGaussian};
 ghost use Rattle.coloring.specs.Discrepancy.{DiscrepancyColored};
+ghost use Rattle.knobthistle.specs.Caps.{capOf};
+ghost use Rattle.sparsification.specs.Answers.{Thinned};
+ghost use Rattle.sparsification.specs.declared.Rule.the-variants.{Target, Within};
 ghost use Rattle.margins.specs.Answers.{changeAnswer, turnedAnswer};
 
 // The next uniform draw; the state moves on.
@@ -103,4 +110,74 @@ pub extern "C" fn knob_discrepancy_coloring(
     ensures { λ r. ⌜ DiscrepancyColored (now (matrix .entry)) m n seed (now (output .entry)) (now (numbers .entry)) (now (indices .entry)) r (now (output .exit)) (now (numbers .exit)) (now (indices .exit)) ⌝ }
 {
     discrepancy_coloring(matrix, m, n, seed, output, numbers, indices)
+}
+
+// Thins to at most `target` nonzero entries.
+#[no_mangle]
+pub extern "C" fn knob_sparsify(
+    matrix: &[f64],
+    m: usize,
+    n: usize,
+    weights: &[f64],
+    seed: u64,
+    target: usize,
+    output: &mut [f64],
+    numbers: &mut [f64],
+    indices: &mut [u32],
+) -> Answer
+    ensures { λ r. ⌜ Thinned (Target target) seed (now (matrix .entry)) m n (now (weights .entry)) (now (output .entry)) (now (numbers .entry)) (now (indices .entry)) r (now (output .exit)) (now (numbers .exit)) (now (indices .exit)) ⌝ }
+{
+    sparsify(
+        matrix,
+        m,
+        n,
+        weights,
+        seed,
+        target,
+        output,
+        numbers,
+        indices,
+    )
+}
+
+// The cap that a host names: none where `capped` is 0.
+fn cap_of(capped: u32, cap: usize) -> Cap
+    ensures { λ r. ⌜ r ≡ capOf capped cap ⌝ }
+{
+    if capped == 0 {
+        Cap::Absent
+    } else {
+        Cap::AtMost(cap)
+    }
+}
+
+// Thins within an allowance, and as far as the cap asks.
+#[no_mangle]
+pub extern "C" fn knob_sparsify_within(
+    matrix: &[f64],
+    m: usize,
+    n: usize,
+    weights: &[f64],
+    seed: u64,
+    allowance: f64,
+    capped: u32,
+    cap: usize,
+    output: &mut [f64],
+    numbers: &mut [f64],
+    indices: &mut [u32],
+) -> Answer
+    ensures { λ r. ⌜ Thinned (Within allowance (capOf capped cap)) seed (now (matrix .entry)) m n (now (weights .entry)) (now (output .entry)) (now (numbers .entry)) (now (indices .entry)) r (now (output .exit)) (now (numbers .exit)) (now (indices .exit)) ⌝ }
+{
+    sparsify_within(
+        matrix,
+        m,
+        n,
+        weights,
+        seed,
+        allowance,
+        cap_of(capped, cap),
+        output,
+        numbers,
+        indices,
+    )
 }

@@ -1,0 +1,2 @@
+-- What the C interface adds to the definitions.
+pub mod Caps
