@@ -13,15 +13,12 @@ use Rattle.linear.specs.Held.{vectorsIn}
 use Rattle.entries.specs.Rows.{worstTo}
 use Rattle.walk.specs.Freeze.{Walk, blocking}
 
--- A x, A g and the row norms, of so many rows
+-- A x and A g, of so many rows
 abbrev pub axIn : ℕ → List Float → List Float
 axIn rows num = part 0 rows num
 
 abbrev pub agIn : ℕ → List Float → List Float
 agIn rows num = part rows rows num
-
-abbrev pub normsIn : ℕ → List Float → List Float
-normsIn rows num = part (rows + rows) rows num
 
 -- the basis of count vectors, each l long
 abbrev pub basisIn : ℕ → ℕ → ℕ → List Float → List (List Float)
