@@ -1,0 +1,120 @@
+// needs: knob_discrepancy_coloring knob_sparsify knob_sparsify_within knob_max_margin_change knob_turned_words
+//! The stack that each call uses, at the largest sizes: the stack below a call is painted before it, and what is left of the paint is
+//! counted after it. The lent scratch is all else that a call may use, so this is its whole memory.
+
+#[path = "shared/chance.rs"]
+mod chance;
+#[path = "shared/coloring_call.rs"]
+mod coloring_call;
+#[path = "shared/margin_calls.rs"]
+mod margin_calls;
+#[path = "shared/matrices.rs"]
+mod matrices;
+#[path = "shared/tally.rs"]
+mod tally;
+#[path = "shared/thinning_calls.rs"]
+mod thinning_calls;
+
+use chance::Chance;
+use std::hint::black_box;
+use tally::{end, Tally};
+
+/// How much is painted, and how much a call may use.
+const PAINTED: usize = 1 << 19;
+const ALLOWED: usize = 64 << 10;
+const PAINT: u8 = 0xA5;
+/// What is left to the frame that paints.
+const FRAME: usize = 256;
+
+/// A place in the stack near the top of the caller's frame; what a call from there uses lies below it.
+#[inline(always)]
+fn here(mark: &mut u8) -> *mut u8 {
+    black_box(mark)
+}
+
+/// The stack grows downwards. Nothing is called here, so that what lies below is nobody's; the first bytes are left to this frame.
+#[inline(never)]
+fn paint() {
+    let top = here(&mut 0);
+    for k in FRAME..PAINTED {
+        unsafe { top.sub(k).write_volatile(PAINT) };
+    }
+}
+
+/// The bytes down to the last that is not painted.
+#[inline(never)]
+fn used() -> usize {
+    let top = here(&mut 0);
+    let mut deepest = PAINTED - 1;
+    while deepest > FRAME && unsafe { top.sub(deepest).read_volatile() } == PAINT {
+        deepest -= 1;
+    }
+    deepest
+}
+
+fn measure(name: &str, tally: &mut Tally, mut call: impl FnMut() -> u64) {
+    paint();
+    let number = call();
+    let bytes = used();
+    println!("{name:<44} {bytes:>8} bytes");
+    tally.note(number == 0 && bytes < ALLOWED, || format!("{name}: number {number}, {bytes} bytes"));
+}
+
+fn all() -> Tally {
+    let (m, n) = (256, 4096);
+    let mut chance = Chance::new("stack", 6);
+    let mut tally = Tally::new("stack");
+    let matrix = matrices::matrix(2, m, n, &mut chance);
+    let weights: Vec<f64> = (0..m).map(|_| chance.unit() + 0.5).collect();
+    let (mut output, mut colours) = (vec![0.0; m], vec![0i8; m]);
+    let mut numbers = vec![0.0; m * (n + 1) + m * m + 16 * m + 8 * (n + 1)];
+    let mut indices = vec![0u32; 8 * (m + n + 1)];
+    let (lent, length) = (matrix.as_ptr(), matrix.len());
+    let mut answer = thinning_calls::Answer { number: 0, stage: 0, nonzeros: 0, change: 0.0 };
+    let (numbers_at, indices_at) = ((numbers.as_mut_ptr(), numbers.len()), (indices.as_mut_ptr(), indices.len()));
+    measure("discrepancy_coloring", &mut tally, || unsafe {
+        coloring_call::knob_discrepancy_coloring(
+            lent,
+            length,
+            m,
+            n,
+            1,
+            colours.as_mut_ptr(),
+            m,
+            numbers_at.0,
+            numbers_at.1,
+            indices_at.0,
+            indices_at.1,
+        )
+    });
+    measure("sparsify", &mut tally, || unsafe {
+        let (w, out) = (weights.as_ptr(), output.as_mut_ptr());
+        let (numbers, indices) = (numbers_at, indices_at);
+        thinning_calls::knob_sparsify(
+            &mut answer, lent, length, m, n, w, m, 1, 4, out, m, numbers.0, numbers.1, indices.0, indices.1,
+        );
+        answer.number
+    });
+    measure("sparsify_within", &mut tally, || unsafe {
+        let (w, out) = (weights.as_ptr(), output.as_mut_ptr());
+        let (numbers, indices) = (numbers_at, indices_at);
+        thinning_calls::knob_sparsify_within(
+            &mut answer, lent, length, m, n, w, m, 1, 0.1, 1, 4, out, m, numbers.0, numbers.1, indices.0, indices.1,
+        );
+        answer.number
+    });
+    let (before, after) = (weights.as_ptr(), output.as_ptr());
+    measure("max_margin_change", &mut tally, || unsafe {
+        margin_calls::knob_max_margin_change(lent, length, m, n, before, m, after, m, &mut 0.0)
+    });
+    measure("turned_words", &mut tally, || unsafe {
+        margin_calls::knob_turned_words(lent, length, m, n, before, m, after, m, &mut 0)
+    });
+    tally
+}
+
+fn main() {
+    // A thread of its own, whose stack is as deep as is painted and more.
+    let thread = std::thread::Builder::new().stack_size(4 * PAINTED).spawn(all).expect("a thread");
+    end(&[&thread.join().expect("an end")]);
+}
