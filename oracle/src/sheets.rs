@@ -1,6 +1,7 @@
-// needs: knob_gaussian bin/thin
-//! Sheets: what the program `thin` prints, byte for byte, against a second reader and writer of the form and the original's answer;
-//! good sheets, refused ones, and sheets with a fault in some line. Argument: the program, which reads a sheet from its standard input.
+// needs: knob_gaussian knob_sparsify knob_sparsify_within knob_thin_sheet
+//! Sheets: the answers of the archive's call on sheets, byte for byte, against answers written by hand, against a second reader and
+//! writer of the form with the original's answer, and against the archive's own thinning calls; good sheets, refused ones, and sheets
+//! with each kind of fault in some line. Buffers that are too short must stay as they were, and so must all that lies beyond an answer.
 
 #[path = "shared/chance.rs"]
 mod chance;
@@ -18,15 +19,24 @@ mod matrices;
 mod original;
 #[path = "shared/tally.rs"]
 mod tally;
+#[path = "shared/thinning_calls.rs"]
+mod thinning_calls;
 #[path = "shared/watch.rs"]
 mod watch;
 
 use chance::{count, Chance};
 use domain::{Domain, Expected};
 use jobs::{by_stages, refusal, Ensemble, Rule};
-use std::io::Write;
-use std::process::{Command, Stdio};
+use lent::{scratch_sizes, Lent};
 use tally::{end, Tally};
+use thinning_calls::{knob_sparsify, knob_sparsify_within, Answer};
+
+extern "C" {
+    fn knob_thin_sheet(text: *const u8, text_len: usize, answer: *mut u8, answer_len: usize) -> usize;
+}
+
+/// The bytes that every answer fits in.
+const ENOUGH: usize = 1342;
 
 /// A count: decimal, no leading zero but `0` itself, at most 4294967295.
 fn a_count(field: &[u8]) -> Option<usize> {
@@ -92,23 +102,221 @@ fn read(sheet: &[u8]) -> Result<(Ensemble, Rule), usize> {
     Ok((e, rule))
 }
 
-/// What is to be printed for a sheet.
-fn expected(sheet: &[u8], domain: &mut Domain) -> String {
-    let (e, rule) = match read(sheet) {
-        Ok(job) => job,
-        Err(line) => return format!("bad\t{line}\n"),
-    };
-    let number = refusal(&e, rule, e.m, usize::MAX, usize::MAX);
+/// The text of an accepted job's answer.
+fn accepted(stage: u64, nonzeros: u64, change: f64, weights: &[f64]) -> String {
+    let mut text = format!("ok\t{stage}\t{nonzeros}\t{:016X}\n", change.to_bits());
+    for (j, w) in weights.iter().enumerate() {
+        text += &format!("w\t{j}\t{:016X}\n", w.to_bits());
+    }
+    text
+}
+
+/// The answer to a job by the original.
+fn by_original(e: &Ensemble, rule: Rule, domain: &mut Domain) -> String {
+    let number = refusal(e, rule, e.m, usize::MAX, usize::MAX);
     if number != 0 {
         return format!("refused\t{number}\n");
     }
     let columns = matrices::columns(&e.matrix, e.m, e.n);
-    let (Expected::Original(said) | Expected::Document(said)) = domain.expect(|| by_stages(&columns, &e, rule));
-    let mut text = format!("ok\t{}\t{}\t{:016X}\n", said.stage, said.nonzeros, said.change.to_bits());
-    for (j, w) in said.weights.iter().enumerate() {
-        text += &format!("w\t{j}\t{:016X}\n", w.to_bits());
+    let (Expected::Original(said) | Expected::Document(said)) = domain.expect(|| by_stages(&columns, e, rule));
+    accepted(said.stage, said.nonzeros, said.change, &said.weights)
+}
+
+/// The answer to a job by the archive's thinning calls.
+fn by_calls(e: &Ensemble, rule: Rule) -> String {
+    let (numbers, indices) = scratch_sizes(e.m, e.n);
+    let (mut numbers, mut indices) = (vec![7.0; numbers as usize], vec![7; indices as usize]);
+    let mut output = vec![7.0; e.m];
+    let mut a = Answer { number: 77, stage: 77, nonzeros: 77, change: 77.0 };
+    unsafe {
+        match rule {
+            Rule::Target(target) => knob_sparsify(
+                &mut a,
+                e.matrix.as_ptr(),
+                e.matrix.len(),
+                e.m,
+                e.n,
+                e.weights.as_ptr(),
+                e.weights.len(),
+                e.seed,
+                target,
+                output.as_mut_ptr(),
+                output.len(),
+                numbers.as_mut_ptr(),
+                numbers.len(),
+                indices.as_mut_ptr(),
+                indices.len(),
+            ),
+            Rule::Within(allowance, cap) => knob_sparsify_within(
+                &mut a,
+                e.matrix.as_ptr(),
+                e.matrix.len(),
+                e.m,
+                e.n,
+                e.weights.as_ptr(),
+                e.weights.len(),
+                e.seed,
+                allowance,
+                u32::from(cap.is_some()),
+                cap.unwrap_or(0),
+                output.as_mut_ptr(),
+                output.len(),
+                numbers.as_mut_ptr(),
+                numbers.len(),
+                indices.as_mut_ptr(),
+                indices.len(),
+            ),
+        }
+    };
+    match a.number {
+        0 => accepted(a.stage, a.nonzeros, a.change, &output),
+        number => format!("refused\t{number}\n"),
     }
-    text
+}
+
+/// What stands in memory before and behind a sheet: bytes that would open it, end it or go on with it, if they were read.
+const BEFORE: &[u8] = b"thin\t";
+const BEHIND: &[u8] = b"\n0000000000000000\tcol\t3FF0000000000000\t3FF0000000000000\n";
+
+/// A sheet as it is lent: between bytes that are none of its own.
+struct Sheet {
+    all: Vec<u8>,
+    len: usize,
+}
+
+impl Sheet {
+    fn new(text: &[u8]) -> Sheet {
+        Sheet { all: [BEFORE, text, BEHIND].concat(), len: text.len() }
+    }
+
+    fn text(&self) -> &[u8] {
+        &self.all[BEFORE.len()..][..self.len]
+    }
+}
+
+/// Lends a sheet and a buffer of so many bytes of noise: what was said, and the buffer.
+fn call(sheet: &Sheet, room: usize, chance: &mut Chance) -> (usize, Lent<u8>) {
+    let mut answer = Lent::new(room, || chance.word() as u8);
+    let said = unsafe { knob_thin_sheet(sheet.text().as_ptr(), sheet.len, answer.lend(), room) };
+    (said, answer)
+}
+
+struct Comparison {
+    domain: Domain,
+    by_hand: Tally,
+    good: Tally,
+    refused: Tally,
+    bad: Tally,
+    calls: Tally,
+    short: Tally,
+    beyond: Tally,
+    sheets: Tally,
+    faults: Tally,
+}
+
+impl Comparison {
+    /// Compares the answer to a sheet with all that is known of it. True where the sheet is off the form.
+    fn test(&mut self, text: &[u8], chance: &mut Chance) -> bool {
+        let shown = || format!("{:?}", String::from_utf8_lossy(&text[..text.len().min(300)]));
+        let read = read(text);
+        let expected = match &read {
+            Ok((e, rule)) => by_original(e, *rule, &mut self.domain),
+            Err(line) => format!("bad\t{line}\n"),
+        };
+        let tally = match expected.as_bytes()[0] {
+            b'o' => &mut self.good,
+            b'r' => &mut self.refused,
+            _ => &mut self.bad,
+        };
+        let long = expected.len();
+        let sheet = Sheet::new(text);
+        let room = match chance.below(4) {
+            0 => long,
+            1 => ENOUGH + chance.below(2000),
+            2 => chance.between(long, ENOUGH),
+            _ => ENOUGH,
+        };
+        let (said, answer) = call(&sheet, room, chance);
+        let right = said == long && &answer.content()[..long] == expected.as_bytes();
+        tally.note(right, || {
+            let written = String::from_utf8_lossy(&answer.content()[..said.min(room)]).into_owned();
+            format!("wrote {written:?}, expected {expected:?}, for {}", shown())
+        });
+        self.beyond.note(answer.kept_from(long), || format!("room {room}, for {}", shown()));
+
+        // A buffer that the answer does not fit in.
+        let room = match chance.below(3) {
+            0 => 0,
+            1 => long - 1,
+            _ => chance.below(long),
+        };
+        let (said, answer) = call(&sheet, room, chance);
+        self.short.note(said == 0 && answer.untouched(), || format!("said {said} with room {room}, for {}", shown()));
+        self.sheets.note(sheet.all == Sheet::new(text).all, &shown);
+
+        if let Ok((e, rule)) = &read {
+            let called = by_calls(e, *rule);
+            self.calls.note(called == expected, || format!("the calls say {called:?}, the sheet {expected:?}, for {}", shown()));
+        }
+        read.is_err()
+    }
+}
+
+/// Sheets with the answers that document 01 gives them, written by hand: they hold the reader of this file too.
+const BY_HAND: &[(&str, &str)] = &[
+    ("", "bad\t1\n"),
+    ("\n", "bad\t1\n"),
+    ("thin\n", "bad\t1\n"),
+    ("thin\t0\t0\t0000000000000000\ttarget\t1", "bad\t1\n"),
+    ("thin\t0\t0\t0000000000000000\ttarget\t1\n", "refused\t5\n"),
+    ("thin\t0\t0\t0000000000000000\ttarget\t0\n", "refused\t2\n"),
+    ("thin\t0\t0\t0000000000000000\ttarget\t00\n", "bad\t1\n"),
+    ("thin\t0\t0\t0000000000000000\ttarget\t4294967295\n", "refused\t5\n"),
+    ("thin\t0\t0\t0000000000000000\ttarget\t4294967296\n", "bad\t1\n"),
+    ("thin\t0\t0\t0000000000000000\ttarget\t1\n\n", "bad\t2\n"),
+    ("thin\t0\t0\t0000000000000000\ttarget\t1\nx", "bad\t2\n"),
+    ("thin\t0\t64\t0000000000000000\ttarget\t1\n", "refused\t5\n"),
+    ("thin\t0\t65\t0000000000000000\ttarget\t1\n", "bad\t1\n"),
+    ("thin\t33\t0\t0000000000000000\ttarget\t1\n", "bad\t1\n"),
+    ("thin\t32\t0\t0000000000000000\ttarget\t1\n", "bad\t2\n"),
+    ("thin\t1\t0\t0000000000000000\ttarget\t1\ncol\t3FF0000000000000\n", "refused\t5\n"),
+    ("thin\t1\t0\t0000000000000000\twithin\t7FF8000000000000\t0\ncol\t3FF0000000000000\n", "refused\t1\n"),
+    ("thin\t1\t0\t0000000000000000\twithin\t8000000000000000\t0\ncol\t3FF0000000000000\n", "refused\t2\n"),
+    ("thin\t1\t1\t0000000000000000\ttarget\t1\ncol\t3FF0000000000000\t3FF0000000000001\n", "refused\t7\n"),
+    ("thin\t1\t1\t0000000000000000\ttarget\t1\ncol\tFFF0000000000001\t3FF0000000000000\n", "refused\t8\n"),
+    ("thin\t1\t1\t0000000000000000\ttarget\t1\ncol\t8000000000000000\t3FF0000000000000\n", "refused\t9\n"),
+    (
+        "thin\t1\t1\t0000000000000000\ttarget\t1\ncol\tC008000000000000\t8000000000000000\n",
+        "ok\t0\t1\t0000000000000000\nw\t0\tBFF0000000000000\n",
+    ),
+    (
+        "thin\t2\t2\t0000000000000000\twithin\t3FE0000000000000\t-\ncol\t3FF0000000000000\t3FF0000000000000\t3FF0000000000000\n\
+         col\t4008000000000000\t3FF0000000000000\tBFF0000000000000\n",
+        "ok\t1\t1\t3FE0000000000000\nw\t0\t0000000000000000\nw\t1\t3FF0000000000000\n",
+    ),
+    (
+        "thin\t2\t2\t0000000000000000\twithin\t3FE0000000000000\t-\ncol\t3FF0000000000000\t3FF0000000000000\t3FF0000000000000\n\
+         col\t4008000000000000\t3FF0000000000000\tBFf0000000000000\n",
+        "bad\t3\n",
+    ),
+    (
+        "thin\t2\t2\t0000000000000000\twithin\t3FDFFFFFFFFFFFFF\t-\ncol\t3FF0000000000000\t3FF0000000000000\t3FF0000000000000\n\
+         col\t4008000000000000\t3FF0000000000000\tBFF0000000000000\n",
+        "ok\t0\t2\t0000000000000000\nw\t0\t3FD0000000000000\nw\t1\t3FE8000000000000\n",
+    ),
+];
+
+/// A double that is none, or none that a job may have: any bit pattern of a NaN, an infinity, or just too much.
+fn odd(chance: &mut Chance) -> f64 {
+    let nan = 0x7FF0_0000_0000_0000 | chance.word() >> 12 | 1;
+    f64::from_bits(chance.pick(&[
+        nan,
+        nan | 1 << 63,
+        0x7FF0_0000_0000_0000,
+        0xFFF0_0000_0000_0000,
+        0x3FF0_0000_0000_0001,
+        0x7FEF_FFFF_FFFF_FFFF,
+    ]))
 }
 
 /// The text of a random job.
@@ -124,7 +332,7 @@ fn a_sheet(chance: &mut Chance) -> Vec<u8> {
         1 => format!("target\t{}", chance.pick(&["1", "2", "0", "4294967295"])),
         2 => format!("within\t{:016X}\t-", (chance.unit() * 0.7).to_bits()),
         _ => {
-            let allowance = chance.pick(&[0.0, -0.0, 0.25, f64::INFINITY, f64::NAN, -1.0, 2.0]);
+            let allowance = if chance.once_in(4) { odd(chance) } else { chance.pick(&[0.0, -0.0, 0.25, f64::INFINITY, -1.0, 2.0]) };
             format!("within\t{:016X}\t{}", allowance.to_bits(), chance.pick(&["-", "0", "1", "3", "7", "4294967295"]))
         }
     };
@@ -132,12 +340,16 @@ fn a_sheet(chance: &mut Chance) -> Vec<u8> {
     for j in 0..m {
         let weight = match chance.below(12) {
             0 => chance.pick(&[0.0, -0.0, 5e-324, 1e300]),
-            1 if chance.once_in(20) => chance.pick(&[f64::NAN, f64::INFINITY, f64::MAX]),
+            1 if chance.once_in(20) => odd(chance),
             _ => chance.signed(),
         };
         text += &format!("col\t{:016X}", weight.to_bits());
         for i in 0..n {
-            let entry = if chance.once_in(3000) { chance.pick(&[1.5, f64::NAN, -1.0000000000000002]) } else { matrix[j * n + i] };
+            let entry = match chance.below(3000) {
+                0 => odd(chance),
+                1..=30 => -0.0,
+                _ => matrix[j * n + i],
+            };
             text += &format!("\t{:016X}", entry.to_bits());
         }
         text += "\n";
@@ -145,121 +357,192 @@ fn a_sheet(chance: &mut Chance) -> Vec<u8> {
     text.into_bytes()
 }
 
-/// A sheet with a fault, as a cable, an editor or a typist makes them.
-fn spoil(mut sheet: Vec<u8>, chance: &mut Chance) -> Vec<u8> {
-    for _ in 0..chance.between(1, 2) {
-        let at = chance.below(sheet.len() + 1);
-        let first_end = sheet.iter().position(|byte| *byte == b'\n').unwrap_or(sheet.len());
-        match chance.below(14) {
-            0 => sheet.truncate(at),
-            1 => drop(sheet.pop()),
-            2 => sheet.insert(at, chance.pick(b"\t\n 0Aaf-\r\0")),
-            3 if at < sheet.len() => drop(sheet.remove(at)),
-            4 if at < sheet.len() => sheet[at] = chance.word() as u8,
-            5 if at < sheet.len() => sheet[at] = chance.pick(b"\t\n 0Gg@/:`"),
-            6 => sheet.extend_from_slice(chance.pick(&[b"\n".as_slice(), b"x", b"col\t0000000000000000\n", b"\n\n", b" "])),
-            7 => sheet.make_ascii_lowercase(),
-            8 => sheet = sheet.iter().flat_map(|byte| if *byte == b'\n' { vec![b'\r', b'\n'] } else { vec![*byte] }).collect(),
-            9 => {
-                // A first line with a count of another form or size.
-                let count = chance.pick(&[
-                    "00",
-                    "01",
-                    "33",
-                    "65",
-                    "4294967295",
-                    "4294967296",
-                    "18446744073709551617",
-                    "",
-                    "-1",
-                    "+1",
-                    "1 ",
-                    "32",
-                    "64",
-                    "3a",
-                ]);
-                let text = String::from_utf8_lossy(&sheet[..first_end]).into_owned();
-                let mut fields: Vec<&str> = text.split('\t').collect();
-                let which = chance.below(fields.len());
-                fields[which] = count;
-                sheet.splice(..first_end, fields.join("\t").into_bytes());
+/// Changes a random line that has a newline, the newline left out; the first line more often than another.
+fn in_a_line(sheet: &mut Vec<u8>, chance: &mut Chance, change: impl FnOnce(&mut Vec<u8>, &mut Chance)) {
+    let mut lines: Vec<Vec<u8>> = sheet.split(|byte| *byte == b'\n').map(<[u8]>::to_vec).collect();
+    let at = if chance.once_in(3) { 0 } else { chance.below((lines.len() - 1).max(1)) };
+    change(&mut lines[at], chance);
+    *sheet = lines.join(&b'\n');
+}
+
+/// Changes a random field of a random line, or the one of this number of the first.
+fn in_a_field(sheet: &mut Vec<u8>, which: Option<usize>, chance: &mut Chance, change: impl FnOnce(&mut Vec<u8>, &mut Chance)) {
+    let fields_of = |line: &mut Vec<u8>, chance: &mut Chance| {
+        let mut fields: Vec<Vec<u8>> = line.split(|byte| *byte == b'\t').map(<[u8]>::to_vec).collect();
+        let at = which.unwrap_or(chance.below(fields.len())).min(fields.len() - 1);
+        change(&mut fields[at], chance);
+        *line = fields.join(&b'\t');
+    };
+    if which.is_none() {
+        return in_a_line(sheet, chance, fields_of);
+    }
+    let end = sheet.iter().position(|byte| *byte == b'\n').unwrap_or(sheet.len());
+    let mut line = sheet[..end].to_vec();
+    fields_of(&mut line, chance);
+    sheet.splice(..end, line);
+}
+
+/// The kinds of fault that `spoil` makes.
+const FAULTS: usize = 32;
+
+/// A sheet with a fault, as a cable, an editor or a typist makes them. Not every one of them is off the form.
+fn spoil(sheet: &mut Vec<u8>, kind: usize, chance: &mut Chance) {
+    // The places of counts in the first line: columns, rows, target, cap.
+    let counted = Some(chance.pick(&[1, 2, 5, 6]));
+    let place = chance.below(sheet.len() + 1);
+    match kind {
+        0 => sheet.make_ascii_lowercase(),
+        1 => in_a_field(sheet, None, chance, |field, _| field.make_ascii_lowercase()),
+        2 => in_a_field(sheet, counted, chance, |field, _| field.insert(0, b'0')),
+        3 => in_a_field(sheet, None, chance, |field, chance| field.insert(chance.below(field.len() + 1), b'\t')),
+        4 => in_a_line(sheet, chance, |line, _| line.push(b'\r')),
+        5 => *sheet = sheet.iter().flat_map(|byte| if *byte == b'\n' { vec![b'\r', b'\n'] } else { vec![*byte] }).collect(),
+        6 => drop(sheet.pop()),
+        7 => {
+            // A newline is lost.
+            let ends: Vec<usize> = (0..sheet.len()).filter(|at| sheet[*at] == b'\n').collect();
+            if !ends.is_empty() {
+                sheet.remove(chance.pick(&ends));
             }
-            10 => {
-                let extra = chance.pick(&["\t1", "\t", "\t-", "\t2"]);
-                sheet.splice(first_end..first_end, extra.bytes());
+        }
+        8 => in_a_line(sheet, chance, |line, chance| {
+            line.extend_from_slice(chance.pick(&[b"\t".as_slice(), b"\t1", b"\t-", b"\t3FF0000000000000"]))
+        }),
+        9 => in_a_line(sheet, chance, |line, _| line.truncate(line.iter().rposition(|byte| *byte == b'\t').unwrap_or(0))),
+        10 => sheet.extend_from_slice(chance.pick(&[b"col\t0000000000000000\n".as_slice(), b"thin\n", b"x", b" ", b"\0", b"\t"])),
+        11 => sheet.extend_from_slice(chance.pick(&[b"\n".as_slice(), b"\n\n", b"\r\n"])),
+        12 => in_a_field(sheet, Some(1), chance, |field, chance| *field = chance.pick(&["33", "34", "100", "4294967295"]).into()),
+        13 => in_a_field(sheet, Some(2), chance, |field, chance| *field = chance.pick(&["65", "66", "100", "4294967295"]).into()),
+        14 => in_a_field(sheet, counted, chance, |field, chance| {
+            *field = chance.pick(&["4294967296", "4294967297", "9999999999", "18446744073709551617", "99999999999999999999999"]).into()
+        }),
+        15 => in_a_field(sheet, counted, chance, |field, chance| {
+            *field = chance.pick(&["", "-1", "+1", "1 ", " 1", "1.0", "3a", "0x1", "--"]).into()
+        }),
+        16 => in_a_field(sheet, counted, chance, |field, chance| *field = chance.pick(&["0", "1", "2", "31", "32", "63", "64"]).into()),
+        17 => sheet.insert(place, 0),
+        18 if place < sheet.len() => sheet[place] = 0,
+        19 => sheet.truncate(place),
+        20 => {
+            let long = vec![chance.pick(b"0\tx\n\0F"); 100_000];
+            sheet.splice(place..place, long);
+        }
+        21 => sheet.resize(100_000, chance.pick(b"0\tx\n\0")),
+        22 => in_a_field(sheet, None, chance, |field, chance| {
+            let at = chance.below(field.len() + 1);
+            field.splice(at..at, vec![b'0'; chance.pick(&[1, 16, 1000])]);
+        }),
+        23 => in_a_field(sheet, None, chance, |field, _| field.truncate(field.len().saturating_sub(1))),
+        24 => in_a_field(sheet, None, chance, |field, chance| {
+            if !field.is_empty() {
+                let at = chance.below(field.len());
+                field[at] = chance.pick(b"Gg@/:` afx\x80\xFF");
             }
-            11 => {
-                // Two lines change places, or one is lost.
-                let mut lines: Vec<Vec<u8>> = sheet.split_inclusive(|byte| *byte == b'\n').map(<[u8]>::to_vec).collect();
-                if lines.len() > 1 {
-                    let (i, j) = (chance.below(lines.len()), chance.below(lines.len()));
-                    if chance.once_in(2) {
-                        lines.swap(i, j)
-                    } else {
-                        drop(lines.remove(i))
-                    }
+        }),
+        25 => in_a_field(sheet, chance.pick(&[Some(0), Some(4)]), chance, |field, chance| {
+            *field = chance.pick(&["thin", "Thin", "thin ", "thi", "col", "target", "within", "targets", "Target", "withi", ""]).into()
+        }),
+        26 => {
+            // Two lines change places, or one is lost or stands twice.
+            let mut lines: Vec<Vec<u8>> = sheet.split_inclusive(|byte| *byte == b'\n').map(<[u8]>::to_vec).collect();
+            if !lines.is_empty() {
+                let (i, j) = (chance.below(lines.len()), chance.below(lines.len()));
+                match chance.below(3) {
+                    0 => lines.swap(i, j),
+                    1 => drop(lines.remove(i)),
+                    _ => lines.insert(i, lines[j].clone()),
                 }
-                sheet = lines.concat();
             }
-            12 if chance.once_in(20) => sheet = std::iter::repeat(sheet).take(chance.between(2, 80)).flatten().collect(),
-            13 if chance.once_in(20) => {
-                let long = vec![chance.pick(b"0\tx"); chance.between(1000, 100_000)];
-                sheet.splice(at..at, long);
+            *sheet = lines.concat();
+        }
+        27 => drop(sheet.splice(..0, chance.pick(&[b"\n".as_slice(), b"\xEF\xBB\xBF", b" ", b"\t", b"\0"]).iter().copied())),
+        28 => *sheet = sheet.repeat(chance.between(2, 20)),
+        29 if place < sheet.len() => sheet[place] = chance.word() as u8,
+        30 | 31 => {
+            // What parts two fields or lines is another byte, or lost; in the first line or in any.
+            let end = if kind == 30 { sheet.iter().position(|byte| *byte == b'\n').map_or(0, |at| at + 1) } else { sheet.len() };
+            let all: Vec<usize> = (0..end).filter(|at| b"\t\n".contains(&sheet[*at])).collect();
+            if !all.is_empty() {
+                let (at, byte) = (chance.pick(&all), chance.pick(b" \t\n\r\0,;0A-"));
+                sheet.splice(at..at + 1, (!chance.once_in(4)).then_some(byte));
             }
-            _ => {}
+        }
+        _ => {}
+    }
+}
+
+/// Every text that is this sheet with one byte changed to any other, taken out or put in, or its end cut off.
+fn near(sheet: &[u8], mut test: impl FnMut(&[u8])) {
+    for at in 0..=sheet.len() {
+        test(&sheet[..at]);
+        for byte in 0..=255 {
+            if at < sheet.len() {
+                test(&[&sheet[..at], &[byte], &sheet[at + 1..]].concat());
+            }
+            if b"\t\n\r\0 019AFaf-".contains(&byte) {
+                test(&[&sheet[..at], &[byte], &sheet[at..]].concat());
+            }
+        }
+        if at < sheet.len() {
+            test(&[&sheet[..at], &sheet[at + 1..]].concat());
         }
     }
-    sheet
 }
 
-/// What the program prints for a sheet.
-fn printed(program: &str, sheet: &[u8]) -> Vec<u8> {
-    let mut child = Command::new(program).stdin(Stdio::piped()).stdout(Stdio::piped()).spawn().expect("the program starts");
-    let mut input = child.stdin.take().expect("its input");
-    let sheet = sheet.to_vec();
-    // The program may stop reading at a wrong line: a pipe that breaks is no fault.
-    let writer = std::thread::spawn(move || drop(input.write_all(&sheet)));
-    let output = child.wait_with_output().expect("the program ends");
-    writer.join().expect("the sheet is handed over");
-    output.stdout
-}
+/// The sheets whose every neighbour is tried.
+const CENTRES: [&str; 3] = [
+    "thin\t2\t2\t0000000000000000\twithin\t3FE0000000000000\t-\ncol\t3FF0000000000000\t3FF0000000000000\t3FF0000000000000\n\
+     col\t4008000000000000\t3FF0000000000000\tBFF0000000000000\n",
+    "thin\t1\t1\t0123456789ABCDEF\twithin\t0000000000000000\t10\ncol\t3FF0000000000000\t3FEFEDCBA9876543\n",
+    "thin\t1\t0\t0123456789ABCDEF\ttarget\t4294967295\ncol\t3FF0000000000000\n",
+];
 
 fn main() {
-    let program = std::env::args().nth(1).expect("the program thin");
     let mut chance = Chance::new("sheets", 6);
-    let mut domain = Domain::new();
-    let (mut good, mut refused, mut bad) = (Tally::new("sheets, accepted"), Tally::new("sheets, refused"), Tally::new("sheets, bad"));
-    let mut test = |sheet: &[u8]| {
-        let expected = expected(sheet, &mut domain);
-        let tally = match expected.as_bytes()[0] {
-            b'o' => &mut good,
-            b'r' => &mut refused,
-            _ => &mut bad,
-        };
-        let printed = printed(&program, sheet);
-        tally.note(printed == expected.as_bytes(), || {
-            format!(
-                "printed {:?}, expected {expected:?}, for {:?}",
-                String::from_utf8_lossy(&printed),
-                String::from_utf8_lossy(&sheet[..sheet.len().min(300)])
-            )
-        });
+    let mut all = Comparison {
+        domain: Domain::new(),
+        by_hand: Tally::new("sheets, answers by hand"),
+        good: Tally::new("sheets, accepted"),
+        refused: Tally::new("sheets, refused"),
+        bad: Tally::new("sheets, bad"),
+        calls: Tally::new("sheets and the thinning calls"),
+        short: Tally::new("sheets, buffers too short"),
+        beyond: Tally::new("sheets, bytes beyond the answer kept"),
+        sheets: Tally::new("sheets, text kept"),
+        faults: Tally::new("sheets, kinds of fault that were met"),
     };
-    for text in [
-        "",
-        "\n",
-        "thin\n",
-        "thin\t0\t0\t0000000000000000\ttarget\t1\n",
-        "thin\t0\t0\t0000000000000000\ttarget\t0\n",
-        "thin\t1\t0\t0000000000000000\ttarget\t1\ncol\t3FF0000000000000\n",
-    ] {
-        test(text.as_bytes());
+    for (text, answer) in BY_HAND {
+        let (said, written) = call(&Sheet::new(text.as_bytes()), ENOUGH, &mut chance);
+        all.by_hand.note(&written.content()[..said.min(ENOUGH)] == answer.as_bytes(), || format!("{text:?}"));
+        all.test(text.as_bytes(), &mut chance);
     }
-    for _ in 0..count(1500) {
+    for sheet in CENTRES {
+        near(sheet.as_bytes(), |text| {
+            all.test(text, &mut chance);
+        });
+    }
+    for _ in 0..count(8000) {
         let sheet = a_sheet(&mut chance);
-        test(&sheet);
-        test(&spoil(sheet, &mut chance));
+        all.test(&sheet, &mut chance);
     }
-    domain.tell();
-    end(&[&good, &refused, &bad])
+    for kind in 0..FAULTS {
+        let mut met = false;
+        for _ in 0..count(250) {
+            let mut sheet = a_sheet(&mut chance);
+            spoil(&mut sheet, kind, &mut chance);
+            met |= all.test(&sheet, &mut chance);
+        }
+        all.faults.note(met, || format!("kind {kind}"));
+    }
+    for _ in 0..count(6000) {
+        let mut sheet = a_sheet(&mut chance);
+        for _ in 0..chance.between(1, 3) {
+            let kind = chance.below(FAULTS);
+            spoil(&mut sheet, kind, &mut chance);
+        }
+        sheet.truncate(200_000);
+        all.test(&sheet, &mut chance);
+    }
+    all.domain.tell();
+    end(&[&all.by_hand, &all.good, &all.refused, &all.bad, &all.calls, &all.short, &all.beyond, &all.sheets, &all.faults])
 }

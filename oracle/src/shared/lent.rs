@@ -39,6 +39,12 @@ impl<T: Copy + PartialEq + Default> Lent<T> {
         self.all[..FENCE] == self.before[..FENCE] && self.all[end..] == self.before[end..]
     }
 
+    /// No element from this place on, beside the buffer too, is other than before the call, and none in front of it.
+    pub fn kept_from(&self, place: usize) -> bool {
+        let at = FENCE + place;
+        self.all[..FENCE] == self.before[..FENCE] && self.all[at..] == self.before[at..]
+    }
+
     /// Every element is zero.
     pub fn zero(&self) -> bool {
         self.content().iter().all(|x| *x == T::default())

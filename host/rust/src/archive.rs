@@ -1,0 +1,92 @@
+//! The calls of the archive, as include/knobthistle.h has them.
+//!
+//! A thinning's answer is written through the first parameter, whose address is also the result. That is how C returns a record of
+//! this size on x86-64, and how oracle/host-archive has it on Arm, where C does otherwise.
+
+/// The archive's answer to a job.
+#[repr(C)]
+#[derive(Default)]
+pub struct Answer {
+    pub number: u64,
+    pub stage: u64,
+    pub nonzeros: u64,
+    pub change: f64,
+}
+
+extern "C" {
+    pub fn knob_sparsify(
+        answer: *mut Answer,
+        matrix: *const f64,
+        matrix_length: usize,
+        m: usize,
+        n: usize,
+        weights: *const f64,
+        weights_length: usize,
+        seed: u64,
+        target: usize,
+        output: *mut f64,
+        output_length: usize,
+        numbers: *mut f64,
+        numbers_length: usize,
+        indices: *mut u32,
+        indices_length: usize,
+    ) -> *mut Answer;
+
+    pub fn knob_sparsify_within(
+        answer: *mut Answer,
+        matrix: *const f64,
+        matrix_length: usize,
+        m: usize,
+        n: usize,
+        weights: *const f64,
+        weights_length: usize,
+        seed: u64,
+        allowance: f64,
+        capped: u32,
+        cap: usize,
+        output: *mut f64,
+        output_length: usize,
+        numbers: *mut f64,
+        numbers_length: usize,
+        indices: *mut u32,
+        indices_length: usize,
+    ) -> *mut Answer;
+
+    pub fn knob_discrepancy_coloring(
+        matrix: *const f64,
+        matrix_length: usize,
+        m: usize,
+        n: usize,
+        seed: u64,
+        output: *mut i8,
+        output_length: usize,
+        numbers: *mut f64,
+        numbers_length: usize,
+        indices: *mut u32,
+        indices_length: usize,
+    ) -> u64;
+
+    pub fn knob_max_margin_change(
+        matrix: *const f64,
+        matrix_length: usize,
+        m: usize,
+        n: usize,
+        before: *const f64,
+        before_length: usize,
+        after: *const f64,
+        after_length: usize,
+        change: *mut f64,
+    ) -> u64;
+
+    pub fn knob_turned_words(
+        matrix: *const f64,
+        matrix_length: usize,
+        m: usize,
+        n: usize,
+        before: *const f64,
+        before_length: usize,
+        after: *const f64,
+        after_length: usize,
+        count: *mut u64,
+    ) -> u64;
+}

@@ -1,0 +1,59 @@
+//! Knobthistle for hosts in Rust: thins the weights of a boosted ensemble so that every margin stays near what it was.
+//!
+//! The work is done by the proved archive `libknobthistle.a`. This crate lends it what it wants and is the only unsafe code between it
+//! and a host. Equal arguments give equal bits, on every machine.
+//!
+//! A matrix is given by its columns: `columns[j][i]` is the margin of hypothesis `j` on example `i`, in [-1, 1]. There are at most
+//! [`MAX_COLUMNS`] columns and [`MAX_ROWS`] rows. What cannot be done is refused, never a panic: see [`Refusal`].
+//!
+//! ```
+//! use knobthistle::{max_margin_change, sparsify, thin, turned_words, Job, Refusal, Rule};
+//!
+//! # fn main() -> Result<(), Refusal> {
+//! // Two hypotheses on two examples; they disagree on the second.
+//! let columns = vec![vec![1.0, 1.0], vec![1.0, -1.0]];
+//! let weights = [1.0, 3.0];
+//!
+//! // As sparse as it gets while no margin changes by more than a half.
+//! let job = Job { seed: 0, rule: Rule::Within { allowance: 0.5, cap: None } };
+//! let thinned = thin(&columns, &weights, job)?;
+//! assert_eq!(thinned.weights, [0.0, 1.0]);
+//! assert_eq!((thinned.stage, thinned.nonzeros, thinned.change), (1, 1, 0.5));
+//!
+//! // The change is measured from the weights divided by the sum of their magnitudes.
+//! assert_eq!(max_margin_change(&columns, &[0.25, 0.75], &thinned.weights)?, 0.5);
+//! assert_eq!(turned_words(&columns, &weights, &thinned.weights)?, 0);
+//!
+//! // To at most one hypothesis; and a job that no one can do.
+//! assert_eq!(sparsify(&columns, &weights, 1, 0)?, [0.0, 1.0]);
+//! assert_eq!(sparsify(&columns, &weights, 0, 0), Err(Refusal::Zero));
+//! # Ok(())
+//! # }
+//! ```
+//!
+//! # Names
+//!
+//! [`sparsify`], [`sparsify_within`], [`max_margin_change`] and [`discrepancy_coloring`] have the names, arguments and values of the
+//! module `sparsification` of miniboosts; where that panics they give a [`Refusal`]. Their values stay plain weights, not records, so
+//! that code written for that module goes on working behind a `?`. [`thin`] gives the whole answer: weights, stage, nonzeros and change.
+//! Where the panics are wanted too, the module [`sparsification`] has the very signatures, and a host changes its `use` line alone.
+//!
+//! # Building
+//!
+//! `rt staticlib knobthistle` in the repository proves the library and writes the archive where this crate looks for it. An archive in
+//! another place is named by the environment variable `KNOBTHISTLE_ARCHIVE`: its path or its folder, from the root or from this crate's
+//! folder. It must be one for the machine: x86-64, or Arm as oracle/host-archive writes it.
+
+mod archive;
+mod coloring;
+mod lent;
+mod margins;
+mod refusal;
+pub mod sparsification;
+mod thinning;
+
+pub use coloring::discrepancy_coloring;
+pub use lent::{MAX_COLUMNS, MAX_ROWS};
+pub use margins::{max_margin_change, turned_words};
+pub use refusal::Refusal;
+pub use thinning::{sparsify, sparsify_within, thin, Job, Rule, Thinned};

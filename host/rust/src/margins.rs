@@ -1,0 +1,59 @@
+//! What a change of weights does to the margins.
+
+use crate::archive::{knob_max_margin_change, knob_turned_words};
+use crate::lent::Matrix;
+use crate::Refusal;
+
+/// The largest change of a row's margin when the weights `before` are replaced by `after`, both used as given. Entries and weights may be
+/// any doubles. Refusals 3 and 4; with no columns or no rows it is 0.
+///
+/// ```
+/// let columns = vec![vec![1.0, 1.0], vec![1.0, -1.0]];
+/// assert_eq!(knobthistle::max_margin_change(&columns, &[0.5, 0.5], &[1.0, 0.0]), Ok(1.0));
+/// ```
+pub fn max_margin_change(columns: &[Vec<f64>], before: &[f64], after: &[f64]) -> Result<f64, Refusal> {
+    let matrix = Matrix::new(columns);
+    let mut change = 0.0;
+    // Sound for the reasons that `thin` gives.
+    let number = unsafe {
+        knob_max_margin_change(
+            matrix.entries.as_ptr(),
+            matrix.entries.len(),
+            matrix.m,
+            matrix.n,
+            before.as_ptr(),
+            before.len(),
+            after.as_ptr(),
+            after.len(),
+            &mut change,
+        )
+    };
+    Refusal::check(number).map(|()| change)
+}
+
+/// The number of rows whose margin by `before` is above 0 and by `after` below 0: the words that turn. Refusals 3 and 4. It is no
+/// function of the module that this library was made from.
+///
+/// ```
+/// let columns = vec![vec![1.0, 1.0], vec![1.0, -1.0]];
+/// assert_eq!(knobthistle::turned_words(&columns, &[1.0, 0.0], &[0.0, 1.0]), Ok(1));
+/// ```
+pub fn turned_words(columns: &[Vec<f64>], before: &[f64], after: &[f64]) -> Result<usize, Refusal> {
+    let matrix = Matrix::new(columns);
+    let mut count = 0;
+    // Sound for the reasons that `thin` gives.
+    let number = unsafe {
+        knob_turned_words(
+            matrix.entries.as_ptr(),
+            matrix.entries.len(),
+            matrix.m,
+            matrix.n,
+            before.as_ptr(),
+            before.len(),
+            after.as_ptr(),
+            after.len(),
+            &mut count,
+        )
+    };
+    Refusal::check(number).map(|()| count as usize)
+}

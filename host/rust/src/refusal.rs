@@ -1,0 +1,82 @@
+//! Why a call is refused.
+
+use std::error::Error;
+use std::fmt;
+
+/// Why a call was refused, by the numbers of include/knobthistle.h. Where several apply the lowest is given.
+#[derive(Clone, Copy, Debug, PartialEq, Eq, Hash)]
+pub enum Refusal {
+    /// 1: the allowance is negative or a NaN. Minus zero and infinity are accepted.
+    Allowance = 1,
+    /// 2: the target or the cap is 0.
+    Zero = 2,
+    /// 3: more than 256 columns or more than 4096 rows.
+    Size = 3,
+    /// 4: the columns differ in length, or there is not one weight for each column.
+    Length = 4,
+    /// 5: no column or no row.
+    Empty = 5,
+    /// 6: a scratch is too short. This crate lends enough, so none of its calls gives it.
+    Scratch = 6,
+    /// 7: an entry is not in [-1, 1]; a NaN is not.
+    Entry = 7,
+    /// 8: a weight is not finite.
+    Weight = 8,
+    /// 9: the sum of the weights' magnitudes is 0 or infinite.
+    Sum = 9,
+    /// 10: after a pass that sum is 0 or not finite. It is proved that no job meets this.
+    LaterSum = 10,
+    /// 11: an entry of a colouring is not finite or exceeds 2^32 in magnitude.
+    ColoringEntry = 11,
+}
+
+impl Refusal {
+    /// Every refusal, in the order of the numbers.
+    pub const ALL: [Refusal; 11] = [
+        Refusal::Allowance,
+        Refusal::Zero,
+        Refusal::Size,
+        Refusal::Length,
+        Refusal::Empty,
+        Refusal::Scratch,
+        Refusal::Entry,
+        Refusal::Weight,
+        Refusal::Sum,
+        Refusal::LaterSum,
+        Refusal::ColoringEntry,
+    ];
+
+    /// The number, 1 to 11.
+    pub fn number(self) -> u64 {
+        self as u64
+    }
+
+    /// What a call's number says: accepted, or refused and why.
+    pub(crate) fn check(number: u64) -> Result<(), Refusal> {
+        match Refusal::ALL.into_iter().find(|refusal| refusal.number() == number) {
+            Some(refusal) => Err(refusal),
+            None if number == 0 => Ok(()),
+            None => unreachable!("the archive's calls answer 0 to 11, not {number}"),
+        }
+    }
+}
+
+impl fmt::Display for Refusal {
+    fn fmt(&self, f: &mut fmt::Formatter) -> fmt::Result {
+        f.write_str(match self {
+            Refusal::Allowance => "the allowed change is negative or not a number",
+            Refusal::Zero => "the target or the cap is 0",
+            Refusal::Size => "there are more than 256 columns or more than 4096 rows",
+            Refusal::Length => "the columns differ in length, or there is not one weight for each column",
+            Refusal::Empty => "there is no column or no row",
+            Refusal::Scratch => "a scratch is too short",
+            Refusal::Entry => "an entry is not in [-1, 1]",
+            Refusal::Weight => "a weight is not finite",
+            Refusal::Sum => "the sum of the weights' magnitudes is 0 or infinite",
+            Refusal::LaterSum => "after a pass the sum of the weights' magnitudes is 0 or not finite",
+            Refusal::ColoringEntry => "an entry is not finite or exceeds 2^32 in magnitude",
+        })
+    }
+}
+
+impl Error for Refusal {}

@@ -1,0 +1,118 @@
+//! The thinning of an ensemble's weights.
+
+use crate::archive::{knob_sparsify, knob_sparsify_within, Answer};
+use crate::lent::{Matrix, Scratch};
+use crate::Refusal;
+
+/// When a thinning stops.
+#[derive(Clone, Copy, Debug, PartialEq)]
+pub enum Rule {
+    /// At the first stage with at most so many nonzeros.
+    Target(usize),
+    /// At the last stage before the first whose change is above the allowance, or at the one with a single nonzero. A cap comes first:
+    /// passes go on until at most so many nonzeros are left, even where the allowance is exceeded.
+    Within { allowance: f64, cap: Option<usize> },
+}
+
+/// A job: the seed of its draws, and when it stops.
+#[derive(Clone, Copy, Debug, PartialEq)]
+pub struct Job {
+    pub seed: u64,
+    pub rule: Rule,
+}
+
+/// The answer to an accepted job.
+#[derive(Clone, Debug, PartialEq)]
+pub struct Thinned {
+    /// The weights, one for each column. Their magnitudes sum to 1, but for rounding.
+    pub weights: Vec<f64>,
+    /// The stage returned: 0 the normalised weights, and one more with each pass that was kept.
+    pub stage: usize,
+    /// How many weights are not 0.
+    pub nonzeros: usize,
+    /// The largest change of a row's margin from the normalised weights to those returned.
+    pub change: f64,
+}
+
+/// Thins weights, and gives the whole answer. [`sparsify`] and [`sparsify_within`] give its weights alone.
+pub fn thin(columns: &[Vec<f64>], weights: &[f64], job: Job) -> Result<Thinned, Refusal> {
+    let matrix = Matrix::new(columns);
+    let mut scratch = Scratch::new(&matrix);
+    let mut output = vec![0.0; columns.len()];
+    let mut answer = Answer::default();
+    // Sound: each pointer is that of a Vec or slice, so never null, and goes with its length; what is written is borrowed from
+    // nowhere else; the archive answers for every length, and keeps no pointer.
+    unsafe {
+        match job.rule {
+            Rule::Target(target) => knob_sparsify(
+                &mut answer,
+                matrix.entries.as_ptr(),
+                matrix.entries.len(),
+                matrix.m,
+                matrix.n,
+                weights.as_ptr(),
+                weights.len(),
+                job.seed,
+                target,
+                output.as_mut_ptr(),
+                output.len(),
+                scratch.numbers.as_mut_ptr(),
+                scratch.numbers.len(),
+                scratch.indices.as_mut_ptr(),
+                scratch.indices.len(),
+            ),
+            Rule::Within { allowance, cap } => knob_sparsify_within(
+                &mut answer,
+                matrix.entries.as_ptr(),
+                matrix.entries.len(),
+                matrix.m,
+                matrix.n,
+                weights.as_ptr(),
+                weights.len(),
+                job.seed,
+                allowance,
+                u32::from(cap.is_some()),
+                cap.unwrap_or(0),
+                output.as_mut_ptr(),
+                output.len(),
+                scratch.numbers.as_mut_ptr(),
+                scratch.numbers.len(),
+                scratch.indices.as_mut_ptr(),
+                scratch.indices.len(),
+            ),
+        }
+    };
+    Refusal::check(answer.number)?;
+    Ok(Thinned { weights: output, stage: answer.stage as usize, nonzeros: answer.nonzeros as usize, change: answer.change })
+}
+
+/// Thins weights to at most `target` nonzeros. The weights are divided by the sum of their magnitudes first; signs are kept, and a
+/// weight that is 0 stays 0. Refusals 2 to 5 and 7 to 9.
+///
+/// ```
+/// let columns = vec![vec![1.0, 1.0], vec![1.0, -1.0]];
+/// assert_eq!(knobthistle::sparsify(&columns, &[-3.0, 1.0], 1, 0), Ok(vec![-1.0, 0.0]));
+/// ```
+pub fn sparsify(columns: &[Vec<f64>], weights: &[f64], target: usize, seed: u64) -> Result<Vec<f64>, Refusal> {
+    thin(columns, weights, Job { seed, rule: Rule::Target(target) }).map(|thinned| thinned.weights)
+}
+
+/// Thins weights as far as no margin changes by more than `max_change`; with `max_nonzeros` as far as that at least, even where the
+/// change is exceeded. Refusals 1 to 5 and 7 to 9.
+///
+/// ```
+/// let columns = vec![vec![1.0, 1.0], vec![1.0, -1.0]];
+/// assert_eq!(knobthistle::sparsify_within(&columns, &[1.0, 3.0], 0.5, None, 0), Ok(vec![0.0, 1.0]));
+/// assert_eq!(knobthistle::sparsify_within(&columns, &[1.0, 3.0], 0.4, None, 0), Ok(vec![0.25, 0.75]));
+/// assert_eq!(knobthistle::sparsify_within(&columns, &[1.0, 3.0], 0.4, Some(1), 0), Ok(vec![0.0, 1.0]));
+/// ```
+pub fn sparsify_within(
+    columns: &[Vec<f64>],
+    weights: &[f64],
+    max_change: f64,
+    max_nonzeros: Option<usize>,
+    seed: u64,
+) -> Result<Vec<f64>, Refusal> {
+    let rule = Rule::Within { allowance: max_change, cap: max_nonzeros };
+    thin(columns, weights, Job { seed, rule }).map(|thinned| thinned.weights)
+}
