@@ -1,0 +1,151 @@
+-- A text of more than 40000 bytes has a wrong line, and every text that begins with it has the same first one: every place that is read lies before, and a sheet of the form is shorter.
+use Prim.Native.Nat.{ℕ, zero, suc, _+_, _*_, _≤_, _<_}
+use mathlib.Core.Path.{_≡_, refl, sym, ap, _∙_}
+use mathlib.Core.Bool.{Bool, true, false, _&&_}
+use mathlib.Core.List.{List, _++_}
+use native.Mathlib.Decide.{decLt}
+use native.Mathlib.Omega.{arith}
+use lib.Dec.{eqb}
+use lib.ListN.{length, take, drop, length-append, take-append-drop}
+use lib.Seq.{length-take-le}
+use lib.Ieee.{binary64, ofBits}
+use Rattle.seq.specs.Choice.{pick}
+use Rattle.limits.specs.Limits.{allTo}
+use Rattle.fields.specs.Bytes.{newline, byteAt, spelled}
+use Rattle.fields.specs.Fields.{isBits, bitsAt, countAt}
+use Rattle.fields.specs.declared.Field.{Field}
+use Rattle.fields.proofs.Every.{every-same}
+use Rattle.fields.proofs.Widths.{count-next}
+use Rattle.fields.proofs.Longer.{byte-longer, spelled-longer, bits-longer, bits-at-longer, count-longer-12}
+use Rattle.sparsification.specs.declared.Cap.the-variants.{Absent, AtMost}
+use Rattle.sparsification.specs.declared.Rule.the-variants.{Target}
+use Rattle.form.specs.Words.{thinWord, targetWord, withinWord, colWord, dash}
+use Rattle.form.specs.Form.{capAt, targetAt, withinAt, noRule, ruleAt, sizesAt, headOf, lineLong, isEntry, isColumn, columnsFrom, wrongLine}
+use Rattle.form.specs.declared.CapField.{CapField}
+use Rattle.form.specs.declared.RuleField.{RuleField}
+use Rattle.form.proofs.Places.{sizes-next, rule-next}
+use Rattle.form.proofs.Fields.{sizes-is, within-is, head-is}
+use Rattle.form.proofs.Verdicts.{Sized, sized, first-wrong, column-wrong, end-wrong}
+
+-- what a dash or a count is read as
+capOf : ℕ → ℕ → Field → CapField
+capOf i b f = pick (eqb b dash) (record { ok = true; cap = Absent; next = suc i }) (record { ok = f .ok; cap = AtMost (f .value); next = f .next })
+
+cap-longer : (t more : List ℕ) (i : ℕ) → i + 12 ≤ length t → capAt (t ++ more) i ≡ capAt t i
+unfolding capAt capOf
+cap-longer t more i h =
+    ap (λ (b : ℕ). capOf i b (countAt (t ++ more) i)) (byte-longer t more i (omega arith)) ∙ ap (capOf i (byteAt t i)) (count-longer-12 t more i h)
+
+within-longer : (t more : List ℕ) (i : ℕ) → i + 29 ≤ length t → withinAt (t ++ more) i ≡ withinAt t i
+within-longer t more i h =
+    sym (within-is (t ++ more) i (byteAt t (i + 16)) (bitsAt t i) (ofBits binary64 (bitsAt t i .value)) (capAt t (i + 17))
+    (sym (bits-at-longer t more i (omega arith))) (sym (byte-longer t more (i + 16) (omega arith))) (sym (cap-longer t more (i + 17) (omega arith))) refl)
+    ∙ within-is t i (byteAt t (i + 16)) (bitsAt t i) (ofBits binary64 (bitsAt t i .value)) (capAt t (i + 17)) refl refl refl refl
+
+same-rule : (s s' u u' : Bool) (a a' b b' c : RuleField) → s ≡ s' → u ≡ u' → a ≡ a' → b ≡ b' → pick s a (pick u b c) ≡ pick s' a' (pick u' b' c)
+same-rule s s' u u' a a' b b' c p q r z = rw (p, q, r, z)
+
+rule-longer : (t more : List ℕ) (i : ℕ) → i + 36 ≤ length t → ruleAt (t ++ more) i ≡ ruleAt t i
+unfolding ruleAt
+rule-longer t more i h =
+    same-rule (spelled targetWord (t ++ more) i) (spelled targetWord t i) (spelled withinWord (t ++ more) i) (spelled withinWord t i)
+    (targetAt (t ++ more) (i + 7)) (targetAt t (i + 7)) (withinAt (t ++ more) (i + 7)) (withinAt t (i + 7)) noRule
+    (spelled-longer targetWord t more i (omega arith)) (spelled-longer withinWord t more i (omega arith))
+    (ap (λ (f : Field). record { ok = f .ok; rule = Target (f .value); next = f .next }) (count-longer-12 t more (i + 7) (omega arith)))
+    (within-longer t more (i + 7) (omega arith))
+
+sizes-longer : (t more : List ℕ) (i : ℕ) → i + 24 ≤ length t → sizesAt (t ++ more) i ≡ sizesAt t i
+sizes-longer t more i h =
+    let j : ℕ = countAt t i .next in
+    let g : Field = countAt t (j + 1) in
+    let a : j ≤ i + 11 = count-next t i in
+    let b : g .next ≤ j + 1 + 11 = count-next t (j + 1) in
+    sym (sizes-is (t ++ more) i (byteAt t j) (byteAt t (g .next)) (countAt t i) g
+    (sym (count-longer-12 t more i (omega arith))) (sym (byte-longer t more j (omega arith))) (sym (count-longer-12 t more (j + 1) (omega arith))) (sym (byte-longer t more (g .next) (omega arith))))
+    ∙ sizes-is t i (byteAt t j) (byteAt t (g .next)) (countAt t i) g refl refl refl refl
+
+head-longer : (t more : List ℕ) → 100 ≤ length t → headOf (t ++ more) ≡ headOf t
+head-longer t more h =
+    let i : ℕ = sizesAt t 5 .next in
+    let j : ℕ = ruleAt t (i + 17) .next in
+    let a : i ≤ 5 + 24 = sizes-next t 5 in
+    let b : j ≤ i + 17 + 35 = rule-next t (i + 17) in
+    sym (head-is (t ++ more) (spelled thinWord t 0) (sizesAt t 5) (bitsAt t i) (byteAt t (i + 16)) (byteAt t j) (ruleAt t (i + 17))
+    (sym (spelled-longer thinWord t more 0 (omega arith))) (sym (sizes-longer t more 5 (omega arith))) (sym (bits-at-longer t more i (omega arith)))
+    (sym (byte-longer t more (i + 16) (omega arith))) (sym (rule-longer t more (i + 17) (omega arith))) (sym (byte-longer t more j (omega arith))))
+    ∙ head-is t (spelled thinWord t 0) (sizesAt t 5) (bitsAt t i) (byteAt t (i + 16)) (byteAt t j) (ruleAt t (i + 17)) refl refl refl refl refl refl
+
+entry-longer : (t more : List ℕ) (i : ℕ) → i + 17 ≤ length t → isEntry (t ++ more) i ≡ isEntry t i
+entry-longer t more i h = rw (byte-longer t more i (omega arith), bits-longer t more (suc i) (omega arith))
+
+same-four : (a a' b b' c c' d d' : Bool) → a ≡ a' → b ≡ b' → c ≡ c' → d ≡ d' → ((a && b) && (c && d)) ≡ ((a' && b') && (c' && d'))
+same-four a a' b b' c c' d d' p q r s = rw (p, q, r, s)
+
+column-longer : (t more : List ℕ) (n i : ℕ) → i + lineLong n ≤ length t → isColumn (t ++ more) n i ≡ isColumn t n i
+unfolding isColumn
+column-longer t more n i h =
+    same-four (spelled colWord (t ++ more) i) (spelled colWord t i) (isBits (t ++ more) (i + 4)) (isBits t (i + 4))
+    (allTo (λ k. isEntry (t ++ more) (i + 20 + 17 * k)) n) (allTo (λ k. isEntry t (i + 20 + 17 * k)) n)
+    (eqb (byteAt (t ++ more) (i + 20 + 17 * n)) newline) (eqb (byteAt t (i + 20 + 17 * n)) newline)
+    (spelled-longer colWord t more i (omega arith)) (bits-longer t more (i + 4) (omega arith))
+    (every-same (λ k. isEntry (t ++ more) (i + 20 + 17 * k)) (λ k. isEntry t (i + 20 + 17 * k)) n (λ j g. entry-longer t more (i + 20 + 17 * j) (omega arith)))
+    (ap (λ (x : ℕ). eqb x newline) (byte-longer t more (i + 20 + 17 * n) (omega arith)))
+
+columns-longer : (t more : List ℕ) (n i k : ℕ) → i + k * lineLong n ≤ length t → columnsFrom (t ++ more) n i k ≡ columnsFrom t n i k
+unfolding columnsFrom
+columns-longer t more n i zero h = refl
+columns-longer t more n i (suc k) h =
+    rw (column-longer t more n i (omega arith), columns-longer t more n (i + lineLong n) k (omega arith))
+
+two : (x : ℕ) → suc (suc x) ≡ x + 2
+two x = omega arith
+
+-- the first wrong line of a text, which has one, and of every longer one
+record Same (t u : List ℕ) : Type 0 where
+  some : 0 < wrongLine t
+  same : wrongLine u ≡ wrongLine t
+
+long-text : (t more : List ℕ) → 40000 < length t → Same t (t ++ more)
+long-text t more h = go (headOf t .ok) refl
+  where
+    e : headOf t ≡ headOf (t ++ more)
+    e = sym (head-longer t more (omega arith))
+
+    same : (x : ℕ) → suc x ≡ wrongLine t → suc x ≡ wrongLine (t ++ more) → Same t (t ++ more)
+    same x p q = record { some = omega arith; same = sym q ∙ p }
+
+    count : ℕ
+    count = columnsFrom t (headOf t .n) (headOf t .next) (headOf t .m)
+
+    after : headOf t .ok ≡ true → Sized (headOf t) → Dec (count < headOf t .m) → Same t (t ++ more)
+    after f z d =
+        let c : count ≡ columnsFrom (t ++ more) (headOf t .n) (headOf t .next) (headOf t .m) =
+        sym (columns-longer t more (headOf t .n) (headOf t .next) (headOf t .m) (omega arith)) in
+        let l : length (t ++ more) ≡ length t + length more = length-append t more in
+        last f z d c l
+      where
+        last : headOf t .ok ≡ true → Sized (headOf t) → Dec (count < headOf t .m) → count ≡ columnsFrom (t ++ more) (headOf t .n) (headOf t .next) (headOf t .m)
+            → length (t ++ more) ≡ length t + length more → Same t (t ++ more)
+        last f z (yes g) c l =
+            same (suc count) (two count ∙ column-wrong t (headOf t) count refl f refl g) (two count ∙ column-wrong (t ++ more) (headOf t) count e f c g)
+        last f z (no g) c l =
+            same (suc (headOf t .m)) (two (headOf t .m) ∙ end-wrong t (headOf t) count refl f refl (omega arith) (λ p. omega arith))
+            (two (headOf t .m) ∙ end-wrong (t ++ more) (headOf t) count e f c (omega arith) (λ p. omega arith))
+
+    go : (s : Bool) → headOf t .ok ≡ s → Same t (t ++ more)
+    go false f = same 0 (first-wrong t (headOf t) refl f) (first-wrong (t ++ more) (headOf t) e f)
+    go true f = after f (sized t (headOf t) refl f) (decLt count (headOf t .m))
+
+-- A text of more than 40000 bytes has a wrong line.
+pub long-text-is-wrong : (text : List ℕ) → 40000 < length text → 0 < wrongLine text
+long-text-is-wrong text h = long-text text text h .some
+
+-- The first wrong line of such a text is that of every text that it begins.
+pub longer-text-same-line : (text more : List ℕ) → 40000 < length text → wrongLine (text ++ more) ≡ wrongLine text
+longer-text-same-line text more h = long-text text more h .same
+
+-- So the first k bytes of a longer text, k being more than 40000, have the first wrong line of the whole.
+pub first-bytes-same-line : (text : List ℕ) (k : ℕ) → 40000 < k → k ≤ length text → wrongLine (take k text) ≡ wrongLine text
+first-bytes-same-line text k h g =
+    let l : length (take k text) ≡ k = length-take-le k text g in
+    sym (longer-text-same-line (take k text) (drop k text) (omega arith)) ∙ ap wrongLine (take-append-drop k text)

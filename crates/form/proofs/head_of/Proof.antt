@@ -1,0 +1,55 @@
+-- `form::head_of` meets its contract: each part is read where the one before it ends, and each ends at most so many bytes on that no sum wraps.
+use Rattle.form.proofs.Fields.{next-sizes, next-rule, head-is}
+use borrow.Author.Needs.{needs}
+use native.Mathlib.Omega.{arith}
+use Rattle.form.proofs.head_of.Statement.{statement}
+use Rattle.form.proofs.head_of.Tie as tie
+
+slice-aggregate-spells : tie.Need-slice-aggregate-spells
+slice-aggregate-spells c = search needs
+
+spells-requires : tie.Need-spells-requires
+spells-requires c κs = search needs
+
+sizes-at-requires : tie.Need-sizes-at-requires
+sizes-at-requires c κs = search needs
+
+bits-at-requires : tie.Need-bits-at-requires
+bits-at-requires c κs = omega (arith, next-sizes _ _ _ (c .sizes-at .ensures))
+
+add-byte-at : tie.Need-add-byte-at
+add-byte-at c = omega (arith, next-sizes _ _ _ (c .before .before .sizes-at .ensures))
+
+byte-at-requires : tie.Need-byte-at-requires
+byte-at-requires c κs = search needs
+
+add-rule-at : tie.Need-add-rule-at
+add-rule-at c = omega (arith, next-sizes _ _ _ (c .before .before .before .before .sizes-at .ensures))
+
+rule-at-requires : tie.Need-rule-at-requires
+rule-at-requires c κs = omega (arith, next-sizes _ _ _ (c .before .before .before .before .sizes-at .ensures))
+
+byte-at-requires-2 : tie.Need-byte-at-requires-2
+byte-at-requires-2 c κs = search needs
+
+add-t13 : tie.Need-add-t13
+add-t13 c = omega (arith, next-sizes _ _ _ (c .before .before .before .before .before .before .before .before .before .before .sizes-at .ensures), next-rule _ _ _ (c .before .before .before .before .before .rule-at .ensures))
+
+returns : tie.Need-returns
+returns c = head-is _ _ _ _ _ _ _ (c .before .before .before .before .before .before .before .before .before .before .before .spells .ensures) (c .before .before .before .before .before .before .before .before .before .before .sizes-at .ensures) (c .before .before .before .before .before .before .before .before .before .bits-at .ensures) (c .before .before .before .before .before .before .before .byte-at .ensures) (c .before .before .before .before .before .rule-at .ensures) (c .before .before .before .before .byte-at2 .ensures)
+
+pub head-of-spec : {M : Type 1} → statement M
+head-of-spec =
+    tie.close
+    (tie.spec
+    slice-aggregate-spells
+    spells-requires
+    sizes-at-requires
+    bits-at-requires
+    add-byte-at
+    byte-at-requires
+    add-rule-at
+    rule-at-requires
+    byte-at-requires-2
+    add-t13
+    returns)

@@ -1,0 +1,109 @@
+-- The form of a sheet, by places: each line's length follows from the first line, so that every field's place is known.
+use Prim.Native.Nat.{ℕ, zero, suc, _+_, _*_}
+use mathlib.Core.Bool.{Bool, true, false, _&&_}
+use mathlib.Core.List.{List}
+use lib.Dec.{eqb, leb, ltb}
+use lib.ListN.{length}
+use lib.Ieee.{binary64, ofBits}
+use Rattle.seq.specs.Choice.{pick}
+use Rattle.limits.specs.Limits.{allTo}
+use Rattle.fields.specs.Bytes.{tab, newline, byteAt, spelled}
+use Rattle.fields.specs.Fields.{isBits, bitsAt, countAt}
+use Rattle.sparsification.specs.declared.Cap.the-variants.{Absent, AtMost}
+use Rattle.sparsification.specs.declared.Rule.the-variants.{Target, Within}
+use Rattle.form.specs.Words.{thinWord, targetWord, withinWord, colWord, dash}
+use Rattle.form.specs.declared.CapField.{CapField}
+use Rattle.form.specs.declared.RuleField.{RuleField}
+use Rattle.form.specs.declared.Sizes.{Sizes}
+use Rattle.form.specs.declared.Head.{Head}
+
+-- the cap at i: a dash or a count
+unfoldable pub capAt : List ℕ → ℕ → CapField
+capAt text i =
+    pick (eqb (byteAt text i) dash)
+    (record { ok = true; cap = Absent; next = suc i })
+    (record { ok = countAt text i .ok; cap = AtMost (countAt text i .value); next = countAt text i .next })
+
+-- no rule
+abbrev pub noRule : RuleField
+noRule = record { ok = false; rule = Target 0; next = 0 }
+
+-- the target at i, which stands after its word
+abbrev pub targetAt : List ℕ → ℕ → RuleField
+targetAt text i = record { ok = countAt text i .ok; rule = Target (countAt text i .value); next = countAt text i .next }
+
+-- the allowance at i and the cap behind it, which stand after their word
+unfoldable pub withinAt : List ℕ → ℕ → RuleField
+withinAt text i =
+    record {
+      ok = isBits text i && (eqb (byteAt text (i + 16)) tab && capAt text (i + 17) .ok);
+      rule = Within (ofBits binary64 (bitsAt text i .value)) (capAt text (i + 17) .cap);
+      next = capAt text (i + 17) .next;
+    }
+
+-- the rule at i: "target" or "within", and what belongs to it
+unfoldable pub ruleAt : List ℕ → ℕ → RuleField
+ruleAt text i =
+    pick (spelled targetWord text i) (targetAt text (i + 7))
+    (pick (spelled withinWord text i) (withinAt text (i + 7)) noRule)
+
+-- the counts of columns and rows, at i and behind it: at most 32 and 64, and a tab after each
+unfoldable pub sizesAt : List ℕ → ℕ → Sizes
+sizesAt text i =
+    let j : ℕ = suc (countAt text i .next) in
+    record {
+      ok = (countAt text i .ok && (leb (countAt text i .value) 32 && eqb (byteAt text (countAt text i .next)) tab))
+          && (countAt text j .ok && (leb (countAt text j .value) 64 && eqb (byteAt text (countAt text j .next)) tab));
+      m = countAt text i .value;
+      n = countAt text j .value;
+      next = suc (countAt text j .next);
+    }
+
+-- the first line: "thin", the sizes, the seed and the rule
+unfoldable pub headOf : List ℕ → Head
+headOf text =
+    let s : Sizes = sizesAt text 5 in
+    let r : RuleField = ruleAt text (s .next + 17) in
+    record {
+      ok = (spelled thinWord text 0 && s .ok)
+          && ((isBits text (s .next) && eqb (byteAt text (s .next + 16)) tab) && (r .ok && eqb (byteAt text (r .next)) newline));
+      m = s .m;
+      n = s .n;
+      seed = bitsAt text (s .next) .value;
+      rule = r .rule;
+      next = suc (r .next);
+    }
+
+-- how long a column's line is, with n entries
+abbrev pub lineLong : ℕ → ℕ
+lineLong n = 21 + 17 * n
+
+-- an entry at i: a tab, and bits
+abbrev pub isEntry : List ℕ → ℕ → Bool
+isEntry text i = eqb (byteAt text i) tab && isBits text (suc i)
+
+-- a column's line at i: "col", the weight's bits, n entries, and a newline
+unfoldable pub isColumn : List ℕ → ℕ → ℕ → Bool
+isColumn text n i =
+    (spelled colWord text i && isBits text (i + 4))
+    && (allTo (λ k. isEntry text (i + 20 + 17 * k)) n && eqb (byteAt text (i + 20 + 17 * n)) newline)
+
+-- how many of k lines from i are columns, before the first that is none
+unfoldable pub columnsFrom : List ℕ → ℕ → ℕ → ℕ → ℕ
+columnsFrom text n i zero = 0
+columnsFrom text n i (suc k) = let r : ℕ = columnsFrom text n (i + lineLong n) k in pick (isColumn text n i) (suc r) 0
+
+-- where the last column's line ends
+abbrev pub endOf : Head → ℕ
+endOf h = h .next + h .m * lineLong (h .n)
+
+-- The first wrong line after a good first one: of the columns, or the line after the last where anything follows it; 0 where there is none.
+abbrev pub wrongAfter : List ℕ → Head → ℕ → ℕ
+wrongAfter text h good = pick (ltb good (h .m)) (good + 2) (pick (eqb (length text) (endOf h)) 0 (h .m + 2))
+
+-- the number of the first wrong line, from 1, or 0 where the sheet is of the form
+unfoldable pub wrongLine : List ℕ → ℕ
+wrongLine text =
+    pick (headOf text .ok)
+    (wrongAfter text (headOf text) (columnsFrom text (headOf text .n) (headOf text .next) (headOf text .m)))
+    1

@@ -1,0 +1,114 @@
+-- The form of a sheet as a text: what a sheet says, written out line by line, and the sheet that a text says.
+use Prim.Native.Nat.{ℕ, zero, suc, _+_, _*_, _/_, _%_, _^_, _<_, _≤_}
+use mathlib.Core.Path.{_≡_}
+use mathlib.Core.Bool.{Bool, true, _&&_}
+use lib.Dec.{leb, ltb}
+use mathlib.Core.List.{List, [], _∷_, _++_}
+use lib.Ieee.{binary64, ofBits}
+use Rattle.seq.specs.Choice.{pick}
+use Rattle.seq.specs.Lists.{tabulate}
+use Rattle.fields.specs.Bytes.{tab, newline, spelled}
+use Rattle.fields.specs.Fields.{bitsAt, countAt}
+use Rattle.fields.specs.Texts.{bitsText, countText}
+use Rattle.sparsification.specs.declared.Cap.{Cap}
+use Rattle.sparsification.specs.declared.Cap.the-variants.{Absent, AtMost}
+use Rattle.sparsification.specs.declared.Rule.{Rule}
+use Rattle.sparsification.specs.declared.Rule.the-variants.{Target, Within}
+use Rattle.form.specs.Words.{thinWord, targetWord, withinWord, colWord, dash}
+use Rattle.form.specs.Form.{capAt, sizesAt, headOf, wrongLine}
+use Rattle.form.specs.Reading.{weightPlace, weightsOf, matrixOf}
+
+-- a rule as a sheet says it: the allowance by its bits
+pub data Wish : Type 0 where
+  target : ℕ → Wish
+  within : ℕ → Cap → Wish
+
+-- what a sheet says: the bits of the weight of each column, and of each of its entries
+pub record Sheet : Type 0 where
+  pub m : ℕ
+  pub n : ℕ
+  pub seed : ℕ
+  pub wish : Wish
+  pub weight : ℕ → ℕ
+  pub entry : ℕ → ℕ → ℕ
+
+abbrev pub capText : Cap → List ℕ
+capText Absent = dash ∷ []
+capText (AtMost c) = countText c
+
+abbrev pub wishText : Wish → List ℕ
+wishText (target t) = targetWord ++ countText t
+wishText (within a cap) = withinWord ++ (bitsText a ++ (tab ∷ capText cap))
+
+-- the first line
+abbrev pub headText : Sheet → List ℕ
+headText s = thinWord ++ (countText (s .m) ++ (tab ∷ (countText (s .n) ++ (tab ∷ (bitsText (s .seed) ++ (tab ∷ (wishText (s .wish) ++ (newline ∷ []))))))))
+
+-- k entries, each after a tab
+unfoldable pub entriesText : (ℕ → ℕ) → ℕ → List ℕ
+entriesText e zero = []
+entriesText e (suc k) = entriesText e k ++ (tab ∷ bitsText (e k))
+
+-- the line of a column
+unfoldable pub columnText : ℕ → ℕ → (ℕ → ℕ) → List ℕ
+columnText n weight e = colWord ++ (bitsText weight ++ (entriesText e n ++ (newline ∷ [])))
+
+-- the lines of the first k columns
+unfoldable pub columnsText : Sheet → ℕ → List ℕ
+columnsText s zero = []
+columnsText s (suc k) = columnsText s k ++ columnText (s .n) (s .weight k) (s .entry k)
+
+-- the whole text
+abbrev pub sheetText : Sheet → List ℕ
+sheetText s = headText s ++ columnsText s (s .m)
+
+-- the counts of a rule are at most 4294967295, and the allowance's bits are 64
+abbrev pub capFits : Cap → Bool
+capFits Absent = true
+capFits (AtMost c) = leb c 4294967295
+
+abbrev pub wishFits : Wish → Bool
+wishFits (target t) = leb t 4294967295
+wishFits (within a cap) = ltb a (2 ^ 64) && capFits cap
+
+-- at most 32 columns and 64 rows, and every number fits its field
+pub record Fits (s : Sheet) : Type 0 where
+  pub columns : s .m ≤ 32
+  pub rows : s .n ≤ 64
+  pub seeds : s .seed < 2 ^ 64
+  pub wishes : wishFits (s .wish) ≡ true
+  pub weights : (j : ℕ) → j < s .m → s .weight j < 2 ^ 64
+  pub entries : (j i : ℕ) → j < s .m → i < s .n → s .entry j i < 2 ^ 64
+
+-- the rule that a wish is: the allowance is the double of its bits
+abbrev pub ruleOf : Wish → Rule
+ruleOf (target t) = Target t
+ruleOf (within a cap) = Within (ofBits binary64 a) cap
+
+-- the wish that stands at i
+abbrev pub wishAt : List ℕ → ℕ → Wish
+wishAt text i = pick (spelled targetWord text i) (target (countAt text (i + 7) .value)) (within (bitsAt text (i + 7) .value) (capAt text (i + 7 + 17) .cap))
+
+-- the sheet that a text says, by places
+abbrev pub sheetOf : List ℕ → Sheet
+sheetOf text =
+    record {
+      m = headOf text .m;
+      n = headOf text .n;
+      seed = headOf text .seed;
+      wish = wishAt text (sizesAt text 5 .next + 17);
+      weight = λ j. bitsAt text (weightPlace (headOf text .next) (headOf text .n) j) .value;
+      entry = λ j i. bitsAt text (weightPlace (headOf text .next) (headOf text .n) j + 17 + 17 * i) .value;
+    }
+
+-- The text is that of the sheet, no line of it is wrong, and what is read from it is what the sheet says.
+pub record Says (text : List ℕ) (s : Sheet) : Type 0 where
+  pub fits : Fits s
+  pub written : text ≡ sheetText s
+  pub right : wrongLine text ≡ 0
+  pub columns : headOf text .m ≡ s .m
+  pub rows : headOf text .n ≡ s .n
+  pub seed : headOf text .seed ≡ s .seed
+  pub rule : headOf text .rule ≡ ruleOf (s .wish)
+  pub weights : weightsOf text (headOf text) ≡ tabulate (λ j. ofBits binary64 (s .weight j)) (s .m)
+  pub matrix : matrixOf text (headOf text) ≡ tabulate (λ k. ofBits binary64 (s .entry (k / s .n) (k % s .n))) (s .m * s .n)
