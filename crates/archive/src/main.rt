@@ -1,6 +1,9 @@
 // Replays an archive of 36 jobs: number, stage, nonzero entries, change and weights of each, in hexadecimal. The file stdout holds what the
 // original answers for them. Entries and weights are made by the generator from the job's seed.
 use draw::SplitMix64;
+use report::print_answer;
+use report::print_weights;
+use report::put;
 use sparsification::Answer;
 use sparsification::Cap;
 use sparsification::sparsify;
@@ -281,42 +284,11 @@ const CAPS: [usize; 36] = [
     40,
 ];
 
-// A byte.
-fn put(b: u8) {
-    let mut one = [0u8; 1];
-    one[0] = b;
-    io::write_all(1, &one[..]);
-}
-
-// The bits of a double; a NaN prints as 0.
-fn print_bits(x: f64) {
-    if x == x {
-        io::print_hex(1, f64::to_bits(x), 16);
-    } else {
-        io::print_hex(1, 0, 16);
-    }
-}
-
 // An answer and its weights.
 fn show(a: Answer, output: &[f64]) {
-    io::print_decimal(1, a.number);
-    put(b'\t');
-    io::print_decimal(1, a.stage);
-    put(b'\t');
-    io::print_decimal(1, a.nonzeros);
-    put(b'\t');
-    print_bits(a.change);
-    show_weights(output);
-    put(b'\n');
-}
-
-fn show_weights(output: &[f64]) {
-    let mut j = 0usize;
-    while j < output.len() {
-        put(b'\t');
-        print_bits(output[j]);
-        j += 1;
-    }
+    print_answer(a);
+    print_weights(output);
+    put(b"\n");
 }
 
 // An entry by its kind, from a uniform: 0 one or minus one, 1 in [-1, 1], 2 mostly 0, 3 always 1, and else a multiple of 1/4.

@@ -1,16 +1,17 @@
 -- The turns of the cosine's series: each asks what holds at its term, and moves on to the next.
 use Prim.Native.Nat.{ℕ, suc, _+_, _*_, _/_, _^_, _≤_, _<_}
-use mathlib.Core.Path.{refl}
+use mathlib.Core.Path.{_≡_, refl, _∙_}
 use native.Mathlib.Nat.{lt-of-lt-of-le}
 use native.Mathlib.Omega.{arith}
-use lib.Dec.{lit≤}
+use lib.Dec.{lit≤, lit<}
+use lib.Ieee.{Float}
 use lib.ListN.{getD}
 use Rattle.draw.specs.declared.CosTerms.{CosTerms}
 use Rattle.draw.specs.Divisors.{divisor}
-use Rattle.draw.specs.Cosine.{term, sums}
-use Rattle.draw.specs.Turns.{CosAt, CosReady, CosTurned}
+use Rattle.draw.specs.Cosine.{term, sums, square, cosineOf}
+use Rattle.draw.specs.Turns.{CosAt, CosReady, CosTurned, differenceOf}
 use Rattle.draw.proofs.Divisors.{divisors, cosine-divisor}
-use Rattle.draw.proofs.Cosines.{zmax, term-small, sum-small, step-small}
+use Rattle.draw.proofs.Cosines.{zmax, term-small, sum-small}
 
 pub first-on : (z : ℕ) → CosAt z 0 (record { term = 2 ^ 51; plus = 2 ^ 51; minus = 0 })
 unfolding term sums
@@ -24,7 +25,7 @@ stepped k l a h = let e = cosine-divisor k l in record {
   minus-is = rw (h .minus-is, a .plus-is);
 }
 
-next-fits : (z k : ℕ) → z ≤ zmax → k < 20 → sums z k .1 + term z k * 64 * z / 2 ^ 64 / divisor k < 2 ^ 64
+pub next-fits : (z k : ℕ) → z ≤ zmax → k < 20 → sums z k .1 + term z k * 64 * z / 2 ^ 64 / divisor k < 2 ^ 64
 unfolding term sums
 next-fits z k h l = let s : sums z (suc k) .0 < 2 ^ 62 = sum-small z h (suc k) (omega arith) in lt-of-lt-of-le s (lit≤ tt)
 
@@ -35,7 +36,13 @@ ready {z} k l h a = let e = cosine-divisor k l in record {
   sum-fits = rw (a .minus-is, a .term-is, e) (next-fits z k h l);
 }
 
--- from the eighth term on the reciprocal of the divisor will do
-pub short-ready : {z : ℕ} {s : CosTerms} (k : ℕ) → 8 ≤ k → k < 20 → z ≤ zmax → CosAt z k s
-    → CosReady z (getD divisors k 0) s × (s .term * 64 * z / 2 ^ 64 * getD divisors k 0 < 2 ^ 64)
-short-ready {z} k g l h a = let e = cosine-divisor k l in (ready k l h a, rw (a .term-is, e) (step-small z h k g l))
+-- ---- the last sums
+
+pub plus-fits : {z : ℕ} {s : CosTerms} → z ≤ zmax → CosAt z 20 s → s .plus < 2 ^ 62
+plus-fits {z} h a = rw (a .plus-is) (sum-small z h 20 (lit< tt))
+
+-- their difference is the cosine of the double with the bits b
+pub unit-is : {s : CosTerms} {r : Float} (b : ℕ) → CosAt (square b) 20 s
+    → r ≡ differenceOf (s .plus) (s .minus) → r ≡ cosineOf b
+unfolding cosineOf
+unit-is b a h = h ∙ rw (a .plus-is, a .minus-is)

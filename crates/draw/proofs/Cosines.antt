@@ -1,7 +1,6 @@
 -- The cosine's terms and sums stay small, so that nothing wraps: they grow with the square z, and at the largest z they are computed.
-use Prim.Native.Nat.{ℕ, zero, suc, _+_, _-_, _*_, _/_, _^_, _≤_, _<_}
+use Prim.Native.Nat.{ℕ, zero, suc, _*_, _^_, _≤_, _<_}
 use mathlib.Core.Bool.{Bool}
-use mathlib.Core.Path.{_≡_}
 use native.Mathlib.Nat.{le-refl, mul-le-mul, mul-le-mul-right, add-le-add, lt-of-le-of-lt}
 use native.Mathlib.Omega.{arith}
 use lib.Dec.{ltb, lit<, ltb→lt}
@@ -41,18 +40,3 @@ term-small z h k l = lt-of-le-of-lt (term-grows h k) (ltb→lt (term zmax k) (2 
 pub sum-small : (z : ℕ) → z ≤ zmax → (k : ℕ) → k < 22 → sums z k .0 < 2 ^ 62
 unfolding smallSum term sums
 sum-small z h k l = lt-of-le-of-lt (sums-grow h k .0) (ltb→lt (sums zmax k .0) (2 ^ 62) (below smallSum 22 tt k l))
-
--- from the eighth term on, what is divided is small enough for a product by the divisor's reciprocal
-smallStep : ℕ → Bool
-smallStep k = ltb (term zmax (8 + k) * 64 * zmax / 2 ^ 64 * divisor (8 + k)) (2 ^ 64)
-
-step-top : (k : ℕ) → k < 12 → term zmax (8 + k) * 64 * zmax / 2 ^ 64 * divisor (8 + k) < 2 ^ 64
-unfolding smallStep term
-step-top k h = ltb→lt (term zmax (8 + k) * 64 * zmax / 2 ^ 64 * divisor (8 + k)) (2 ^ 64) (below smallStep 12 tt k h)
-
-pub step-small : (z : ℕ) → z ≤ zmax → (k : ℕ) → 8 ≤ k → k < 20 → term z k * 64 * z / 2 ^ 64 * divisor k < 2 ^ 64
-step-small z h k l m =
-    let e : 8 + (k - 8) ≡ k = omega arith in
-    let t = step-top (k - 8) (omega arith) in
-    let u : term zmax k * 64 * zmax / 2 ^ 64 * divisor k < 2 ^ 64 = rw e at t in
-    lt-of-le-of-lt (mul-le-mul-right (divisor k) (div-grows (2 ^ 64) (lit< tt) (mul-le-mul (mul-le-mul-right 64 (term-grows h k)) h))) u

@@ -15,19 +15,19 @@ use Rattle.draw.proofs.Upto.{below}
 abbrev pub divisors : List ℕ
 divisors =
     2 ∷ 12 ∷ 30 ∷ 56 ∷ 90 ∷ 132 ∷ 182 ∷ 240 ∷ 306 ∷ 380 ∷ 462 ∷ 552 ∷ 650 ∷ 756 ∷ 870 ∷ 992 ∷ 1122 ∷ 1260 ∷ 1406 ∷ 1560
-    ∷ 1 ∷ 3 ∷ 5 ∷ 7 ∷ 9 ∷ 11 ∷ 13 ∷ 15 ∷ 17 ∷ 19 ∷ 21 ∷ 23 ∷ 25 ∷ 27 ∷ 29 ∷ 31 ∷ 33 ∷ 35 ∷ 37 ∷ 39 ∷ 41 ∷ []
+    ∷ 1 ∷ 3 ∷ 5 ∷ 7 ∷ 9 ∷ 11 ∷ 13 ∷ 15 ∷ 17 ∷ 19 ∷ 21 ∷ 23 ∷ 25 ∷ 27 ∷ 29 ∷ 31 ∷ 33 ∷ []
 
 -- the test at the entry k
 right : ℕ → Bool
 right k = eqb (getD divisors k 0) (divisorAt k)
 
 -- every entry of the table is what the rule says
-pub table-rule : (k : ℕ) → k < 41 → getD divisors k 0 ≡ divisorAt k
+pub table-rule : (k : ℕ) → k < 37 → getD divisors k 0 ≡ divisorAt k
 unfolding right
-table-rule k l = eqb→eq (getD divisors k 0) (divisorAt k) (below right 41 tt k l)
+table-rule k l = eqb→eq (getD divisors k 0) (divisorAt k) (below right 37 tt k l)
 
 pub cosine-divisor : (k : ℕ) → k < 20 → getD divisors k 0 ≡ divisor k
 cosine-divisor k l = table-rule k (omega arith) ∙ rw (lt-ltb k 20 l)
 
-pub odd-divisor : (k : ℕ) → k < 21 → getD divisors (20 + k) 0 ≡ oddDivisor k
+pub odd-divisor : (k : ℕ) → k < 17 → getD divisors (20 + k) 0 ≡ oddDivisor k
 odd-divisor k l = table-rule (20 + k) (omega arith) ∙ rw (le-ltb (20 + k) 20 (omega arith), add-sub-cancel-left)

@@ -3,6 +3,7 @@ pub mod Upto
 pub mod Divisors
 pub mod Cosines
 pub mod CosTurns
+pub mod NearTurns
 pub mod CosineError
 pub mod Poly
 pub mod CosineRange
@@ -12,6 +13,7 @@ pub mod Logs
 pub mod LnTurns
 pub mod Guess
 pub mod Values
+pub mod Differences
 pub mod Uniforms
 pub mod Ready
 pub mod Bounds

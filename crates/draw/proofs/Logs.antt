@@ -82,9 +82,38 @@ module _ (q : ℕ) (q-small : q < 2 ^ 49) where
   sum-small zero = le-refl 0
   sum-small (suc k) = omega (arith, sum-small k, power-small k, div-le-self (power q k) (2 * k + 1))
 
+-- s is at most 1 / 3, so a power is at most a ninth of the one before, and from the seventeenth on it is below its divisor
+module _ (q : ℕ) (third-part : 3 * q ≤ 2 ^ 50) where
+  pub q-half : q < 2 ^ 49
+  q-half = omega arith
+
+  ninth : 9 * ratioSquare q ≤ 2 ^ 64
+  ninth =
+      let nine : 9 * ratioSquare q * 2 ^ 36 ≤ 3 * q * (3 * q) = omega (arith, w-low q q-half) in
+      le-of-mul-le-mul-right {m = 9 * ratioSquare q} {n = 2 ^ 64} {k = 2 ^ 36} (le-trans nine (mul-le-mul third-part third-part)) (lit< tt)
+
+  falls : (k : ℕ) → 9 * power q (suc k) ≤ power q k
+  unfolding power
+  falls k = omega (arith, div-mul-le-self (power q k * ratioSquare q) (2 ^ 64), mul-le-mul-left (power q k) ninth)
+
+  shrunk : (k : ℕ) → 9 ^ k * power q k ≤ q * 2 ^ 9
+  unfolding power
+  shrunk zero = rw (pow-zero 9) (omega arith)
+  shrunk (suc k) = rw (pow-suc 9 k) (le-trans (omega (arith, mul-le-mul-left (9 ^ k) (falls k))) (shrunk k))
+
+  pub skipped : oddSum q 21 ≡ oddSum q 17
+  unfolding oddSum
+  skipped = go (oddSum q 17) (power q 17) (power q 18) (power q 19) (power q 20) (shrunk 17) (falls 17) (falls 18) (falls 19)
+    where
+      go : (s a b c d : ℕ) → 9 ^ 17 * a ≤ q * 2 ^ 9 → 9 * b ≤ a → 9 * c ≤ b → 9 * d ≤ c → s + a / 35 + b / 37 + c / 39 + d / 41 ≡ s
+      go s a b c d h i j k = omega arith
+
 module _ (f g q : ℕ) (pos : 0 < g) (ql : q * g ≤ f * 2 ^ 50) (qh : f * 2 ^ 50 < q * g + g) (tri : f * 3 ≤ g) where
-  pub q-small : q < 2 ^ 49
-  q-small = omega (arith, le-of-mul-le-mul-right {m = 3 * q} {n = 2 ^ 50} {k = g} (omega arith) pos)
+  pub q-third : 3 * q ≤ 2 ^ 50
+  q-third = le-of-mul-le-mul-right {m = 3 * q} {n = 2 ^ 50} {k = g} (omega arith) pos
+
+  q-small : q < 2 ^ 49
+  q-small = q-half q q-third
 
   lo : ratioSquare q * (g * g) ≤ 2 ^ 64 * (f * f)
   lo = omega (arith, mul-le-mul-right (g * g) (w-low q q-small), mul-le-mul ql ql)
@@ -178,8 +207,8 @@ module _ (b : ℕ) (h : b ≤ one-bits) where
   tri : low b * 3 ≤ low b + 2 ^ 53
   tri = omega (arith, f-small)
 
-  pub ratio-small : ratio (low b) < 2 ^ 49
-  ratio-small = q-small (low b) (low b + 2 ^ 53) (ratio (low b)) g-pos ratio-low ratio-high tri
+  pub ratio-third : 3 * ratio (low b) ≤ 2 ^ 50
+  ratio-third = q-third (low b) (low b + 2 ^ 53) (ratio (low b)) g-pos ratio-low ratio-high tri
 
   near : Near (oddSum (ratio (low b)) 21) (odds (low b) (low b + 2 ^ 53) 21 .0) (errSum 21) (odds (low b) (low b + 2 ^ 53) 21 .1)
   near = sum-near (low b) (low b + 2 ^ 53) (ratio (low b)) g-pos ratio-low ratio-high tri 21

@@ -11,6 +11,6 @@ divisor k = (2 * k + 1) * (2 * k + 2)
 abbrev pub oddDivisor : ℕ → ℕ
 oddDivisor k = 2 * k + 1
 
--- the table's entry k: the cosine's 20 divisors, and then the logarithm's 21
+-- the table's entry k: the cosine's 20 divisors, and then the logarithm's
 abbrev pub divisorAt : ℕ → ℕ
 divisorAt k = cond (ltb k 20) (divisor k) (oddDivisor (k - 20))

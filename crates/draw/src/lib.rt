@@ -6,13 +6,13 @@ use wide::lower;
 use wide::over;
 use wide::upper;
 ghost use mathlib.Core.Path.{_≡_};
-ghost use Prim.Native.Nat.{_+_, _*_, _/_, _%_, _^_, _<_, _≤_, min};
+ghost use Prim.Native.Nat.{_+_, _*_, _%_, _^_, _<_, _≤_};
 ghost use lib.Ieee.{binary64, toBits};
 ghost use Rattle.draw.specs.SplitMix.{mixed, outputOf, afterOf};
 ghost use Rattle.draw.specs.Uniform.{uniformOf};
-ghost use Rattle.draw.specs.Cosine.{scaled, unitOf, cosOf};
+ghost use Rattle.draw.specs.Cosine.{scaled, square, cosOf};
 ghost use Rattle.draw.specs.Logarithm.{ratio, ratioSquare, oddSum, lnOf};
-ghost use Rattle.draw.specs.Turns.{CosAt, CosReady, CosTurned, LnAt, LnReady, LnTurned};
+ghost use Rattle.draw.specs.Turns.{CosAt, CosReady, CosTurned, NearAt, NearTurned, differenceOf, LnAt, LnReady, LnTurned};
 ghost use Rattle.draw.specs.Gaussian.{lnOfDraw, cosOfDraw, gaussianOf, afterGaussian};
 
 // The generator: 64 bits of state. It goes in and out by value.
@@ -63,7 +63,8 @@ impl SplitMix64 {
         }
     }
 
-    // The next Gaussian draw: u1 is drawn, and then u2.
+    // The next Gaussian draw: u1 is drawn, and then u2. The cosine is asked for as its two sums, in a struct, and before the root:
+    // the compiler leaves that call in its place, where the machine works it out beside the logarithm. It would put off a double to the end.
     pub fn gaussian(self) -> Draw
         ensures { λ r. ⌜ (r .value ≡ gaussianOf (self .state)) × (r .rng .state ≡ afterGaussian (self .state)) ⌝ }
     {
@@ -71,8 +72,10 @@ impl SplitMix64 {
         let between = u1.rng;
         let u2 = between.uniform();
         let rng = u2.rng;
+        let l = ln(u1.value);
+        let s = cos_sums(6.283185307179586 * u2.value);
         Draw {
-            value: sqrt(-2.0 * ln(u1.value)) * cos(6.283185307179586 * u2.value),
+            value: sqrt(-2.0 * l) * unit(s.plus, s.minus),
             rng,
         }
     }
@@ -116,8 +119,9 @@ pub fn cos_of(word: u64) -> f64
 }
 
 // The series' divisors: (2k + 1)(2k + 2) for k below 20, by which the cosine's terms are divided, and then the odd numbers
-// to 41, by which the logarithm's powers are. Each is read at a constant index, so that the compiler knows it.
-const DIVISORS: [u64; 41] = [
+// to 33, by which the logarithm's powers are: those by 35 to 41 are below their divisors, and add nothing.
+// Each is read at a constant index, so that the compiler knows it.
+const DIVISORS: [u64; 37] = [
     2,
     12,
     30,
@@ -155,10 +159,6 @@ const DIVISORS: [u64; 41] = [
     29,
     31,
     33,
-    35,
-    37,
-    39,
-    41,
 ];
 
 // The cosine's series: a term, the sum of the terms up to it that have its sign, and the sum of the others.
@@ -174,20 +174,6 @@ fn cos_turn(s: CosTerms, z: u64, d: u64) -> CosTerms
     ensures { λ r. ⌜ CosTurned z d s r ⌝ }
 {
     let term = upper(s.term * 64, z) / d;
-    CosTerms {
-        term,
-        plus: s.minus + term,
-        minus: s.plus,
-    }
-}
-
-// The same by a product: from the eighth term on, the divisor's reciprocal is exact enough.
-fn short_cos_turn(s: CosTerms, z: u64, d: u64) -> CosTerms
-    requires { ⌜ CosReady z d s ⌝ }
-    requires { ⌜ s .term * 64 * z / 2 ^ 64 * d < 2 ^ 64 ⌝ }
-    ensures { λ r. ⌜ CosTurned z d s r ⌝ }
-{
-    let term = over(upper(s.term * 64, z), d);
     CosTerms {
         term,
         plus: s.minus + term,
@@ -229,11 +215,11 @@ fn cos_terms_to_15(z: u64) -> CosTerms
     ensures { λ r. ⌜ CosAt z 15 r ⌝ }
 {
     let a = cos_terms_to_10(z);
-    let b = short_cos_turn(a, z, DIVISORS[10]);
-    let c = short_cos_turn(b, z, DIVISORS[11]);
-    let d = short_cos_turn(c, z, DIVISORS[12]);
-    let e = short_cos_turn(d, z, DIVISORS[13]);
-    short_cos_turn(e, z, DIVISORS[14])
+    let b = cos_turn(a, z, DIVISORS[10]);
+    let c = cos_turn(b, z, DIVISORS[11]);
+    let d = cos_turn(c, z, DIVISORS[12]);
+    let e = cos_turn(d, z, DIVISORS[13]);
+    cos_turn(e, z, DIVISORS[14])
 }
 
 fn cos_terms_to_20(z: u64) -> CosTerms
@@ -241,11 +227,105 @@ fn cos_terms_to_20(z: u64) -> CosTerms
     ensures { λ r. ⌜ CosAt z 20 r ⌝ }
 {
     let a = cos_terms_to_15(z);
-    let b = short_cos_turn(a, z, DIVISORS[15]);
-    let c = short_cos_turn(b, z, DIVISORS[16]);
-    let d = short_cos_turn(c, z, DIVISORS[17]);
-    let e = short_cos_turn(d, z, DIVISORS[18]);
-    short_cos_turn(e, z, DIVISORS[19])
+    let b = cos_turn(a, z, DIVISORS[15]);
+    let c = cos_turn(b, z, DIVISORS[16]);
+    let d = cos_turn(c, z, DIVISORS[17]);
+    let e = cos_turn(d, z, DIVISORS[18]);
+    cos_turn(e, z, DIVISORS[19])
+}
+
+// The same series by a shorter way, and a mark: while `doubt` is below 2^63, each term is right.
+struct NearTerms {
+    terms: CosTerms,
+    doubt: u64,
+}
+
+// A number at most z * 64 / d, and less than 2 below it: the upper word of z by the whole part of 2^70 / d.
+fn share(z: u64, d: u64) -> u64
+    requires { ⌜ (64 < d) × (d < 2 ^ 32) ⌝ }
+    ensures { λ r. ⌜ (r * d ≤ z * 64) × (z * 64 < (r + 2) * d) ⌝ }
+{
+    let whole = 0xffff_ffff_ffff_ffff / d;
+    let more = (0xffff_ffff_ffff_ffff % d + 1) * 64 / d;
+    upper(z, whole * 64 + more)
+}
+
+// The next term by one product with the share, which does not wait for the term before. The product is less than two terms short of
+// the exact one, so its upper word is right unless two terms more would carry into it: then half the sum has its highest bit set.
+fn near_turn(n: NearTerms, z: u64, d: u64) -> NearTerms
+    requires { ⌜ CosReady z d (n .terms) ⌝ }
+    requires { ⌜ (64 < d) × (d < 2 ^ 32) ⌝ }
+    ensures { λ r. ⌜ NearTurned z d n r ⌝ }
+{
+    let s = n.terms;
+    let y = share(z, d);
+    let term = upper(s.term, y);
+    let reach = lower(s.term, y) / 2 + s.term;
+    NearTerms {
+        terms: CosTerms {
+            term,
+            plus: s.minus + term,
+            minus: s.plus,
+        },
+        doubt: n.doubt | reach,
+    }
+}
+
+// The series by the shorter way from its fifth term to its tenth, and so on.
+fn near_terms_to_10(z: u64) -> NearTerms
+    requires { ⌜ z ≤ 5 * 2 ^ 61 ⌝ }
+    ensures { λ r. ⌜ NearAt z 10 r ⌝ }
+{
+    let a = NearTerms {
+        terms: cos_terms_to_5(z),
+        doubt: 0,
+    };
+    let b = near_turn(a, z, DIVISORS[5]);
+    let c = near_turn(b, z, DIVISORS[6]);
+    let d = near_turn(c, z, DIVISORS[7]);
+    let e = near_turn(d, z, DIVISORS[8]);
+    near_turn(e, z, DIVISORS[9])
+}
+
+fn near_terms_to_15(z: u64) -> NearTerms
+    requires { ⌜ z ≤ 5 * 2 ^ 61 ⌝ }
+    ensures { λ r. ⌜ NearAt z 15 r ⌝ }
+{
+    let a = near_terms_to_10(z);
+    let b = near_turn(a, z, DIVISORS[10]);
+    let c = near_turn(b, z, DIVISORS[11]);
+    let d = near_turn(c, z, DIVISORS[12]);
+    let e = near_turn(d, z, DIVISORS[13]);
+    near_turn(e, z, DIVISORS[14])
+}
+
+fn near_terms_to_19(z: u64) -> NearTerms
+    requires { ⌜ z ≤ 5 * 2 ^ 61 ⌝ }
+    ensures { λ r. ⌜ NearAt z 19 r ⌝ }
+{
+    let a = near_terms_to_15(z);
+    let b = near_turn(a, z, DIVISORS[15]);
+    let c = near_turn(b, z, DIVISORS[16]);
+    let d = near_turn(c, z, DIVISORS[17]);
+    near_turn(d, z, DIVISORS[18])
+}
+
+// The series to its twentieth term, which is 0: by the shorter way, and where that leaves a doubt by the plain one.
+fn cos_terms(z: u64) -> CosTerms
+    requires { ⌜ z ≤ 5 * 2 ^ 61 ⌝ }
+    ensures { λ r. ⌜ CosAt z 20 r ⌝ }
+{
+    let n = near_terms_to_19(z);
+    if n.doubt < 9223372036854775808 {
+        let s = n.terms;
+        CosTerms {
+            term: 0,
+            plus: s.minus,
+            minus: s.plus,
+        }
+    } else {
+        cos_terms_to_20(z)
+    }
 }
 
 // t * 2^61, rounded down, of the double t with the bits b.
@@ -262,31 +342,37 @@ fn fixed(b: u64) -> u64
     }
 }
 
-// x / 2^51, or 1 where that is above 1.
-fn unit(x: u64) -> f64
-    ensures { λ r. ⌜ r ≡ unitOf (min x (2 ^ 51)) ⌝ }
+// (plus - minus) / 2^51, cut to -1 and 1. The difference is taken with 2^51 added, so that no branch asks for its sign.
+fn unit(plus: u64, minus: u64) -> f64
+    requires { ⌜ plus < 2 ^ 62 ⌝ }
+    ensures { λ r. ⌜ r ≡ differenceOf plus minus ⌝ }
 {
-    if x < 2251799813685248 {
-        (x as f64) / 2251799813685248.0
+    let high = plus + 2251799813685248;
+    let above = if minus < high { high - minus } else { 0 };
+    let kept = if above < 4503599627370496 {
+        above
     } else {
-        1.0
-    }
+        4503599627370496
+    };
+    ((kept as f64) - 2251799813685248.0) / 2251799813685248.0
 }
 
-// The cosine of t, for each t that a draw can meet.
+// The cosine's sums at t, for each t that a draw can meet.
+fn cos_sums(t: f64) -> CosTerms
+    requires { ⌜ (952 * 2 ^ 52 ≤ toBits binary64 t) × (toBits binary64 t ≤ 0x401921FB54442D18) ⌝ }
+    ensures { λ r. ⌜ CosAt (square (toBits binary64 t)) 20 r × (r .plus < 2 ^ 62) ⌝ }
+{
+    let x = fixed(f64::to_bits(t));
+    cos_terms(upper(x, x))
+}
+
+// The cosine of t.
 fn cos(t: f64) -> f64
     requires { ⌜ (952 * 2 ^ 52 ≤ toBits binary64 t) × (toBits binary64 t ≤ 0x401921FB54442D18) ⌝ }
     ensures { λ r. ⌜ r ≡ cosOf t ⌝ }
 {
-    let x = fixed(f64::to_bits(t));
-    let s = cos_terms_to_20(upper(x, x));
-    let plus = s.plus;
-    let minus = s.minus;
-    if minus <= plus {
-        unit(plus - minus)
-    } else {
-        -unit(minus - plus)
-    }
+    let s = cos_sums(t);
+    unit(s.plus, s.minus)
 }
 
 // f * 2^50 / (f + 2^53), by five steps of long division in base 1024.
@@ -386,26 +472,14 @@ fn ln_terms_to_16(q: u64, w: u64) -> LnTerms
     ln_turn(e, w, DIVISORS[35])
 }
 
-fn ln_terms_to_21(q: u64, w: u64) -> LnTerms
-    requires { ⌜ (q < 2 ^ 49) × (w ≡ ratioSquare q) ⌝ }
-    ensures { λ r. ⌜ LnAt q 21 r ⌝ }
-{
-    let a = ln_terms_to_16(q, w);
-    let b = ln_turn(a, w, DIVISORS[36]);
-    let c = ln_turn(b, w, DIVISORS[37]);
-    let d = ln_turn(c, w, DIVISORS[38]);
-    let e = ln_turn(d, w, DIVISORS[39]);
-    ln_turn(e, w, DIVISORS[40])
-}
-
-// The logarithm's sum, A(s) * 2^58, of q, which is s * 2^50.
+// The logarithm's sum, A(s) * 2^58, of q, which is s * 2^50: the powers that add nothing are left out.
 fn odd_sum(q: u64) -> u64
-    requires { ⌜ q < 2 ^ 49 ⌝ }
+    requires { ⌜ 3 * q ≤ 2 ^ 50 ⌝ }
     ensures { λ r. ⌜ r ≡ oddSum q 21 ⌝ }
 {
     let s = q * 16384;
-    let o = ln_terms_to_21(q, upper(s, s));
-    o.sum
+    let o = ln_terms_to_16(q, upper(s, s));
+    o.sum + over(o.power, DIVISORS[36])
 }
 
 // The logarithm of u, for each u that a draw can meet.

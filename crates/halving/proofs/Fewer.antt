@@ -35,27 +35,33 @@ use Rattle.halving.proofs.Minority.{Fails, minority}
 use Rattle.halving.proofs.Zeros.{off-over, plus-zero-off, positive-sound}
 
 -- no test is true and false
-never : {t : Bool} → t ≡ true → t ≡ false → ⊥
+pub never : {t : Bool} → t ≡ true → t ≡ false → ⊥
 never h k = subst T (sym h ∙ k) tt
 
-true-of : (t : Bool) → T t → t ≡ true
+pub true-of : (t : Bool) → T t → t ≡ true
 true-of true h = refl
 true-of false h = absurd h
 
+-- a zero stays as it is
+pub zero-stays : (w : List Float) (rest : List ℕ) (j : ℕ) (v : Float) → isOn w j ≡ false → Moved w rest j v → v ≡ at w j
+zero-stays w rest j v o (stays e) = e
+zero-stays w rest j v o (doubled t a e) = absurd (never t o)
+zero-stays w rest j v o (zeroed t a e) = absurd (never t o)
+
 module _ (z : Float) (u : ℕ → ℕ → Float) (n : ℕ) (h : Halved) where
-  abbrev first : Halved
+  abbrev pub first : Halved
   first = halvedOnce z u n (omegaOf (h .w)) (restOf (h .w)) h
 
-  abbrev second : Halved
+  abbrev pub second : Halved
   second = halvedOnce z u n (omegaOf (h .w)) (restOf (h .w)) first
 
-  abbrev sum : Float
+  abbrev pub sum : Float
   sum = l1Of z (second .w)
 
-  long-first : length (first .w) ≡ length (h .w)
+  pub long-first : length (first .w) ≡ length (h .w)
   long-first = length-once z u n (omegaOf (h .w)) (restOf (h .w)) h
 
-  long-second : length (second .w) ≡ length (h .w)
+  pub long-second : length (second .w) ≡ length (h .w)
   long-second = length-once z u n (omegaOf (h .w)) (restOf (h .w)) first ∙ long-first
 
   -- as many weights as before
@@ -63,11 +69,11 @@ module _ (z : Float) (u : ℕ → ℕ → Float) (n : ℕ) (h : Halved) where
   unfolding passOf halvedTwice normalized
   length-pass = length-tab (overAt sum (second .w)) (length (second .w)) ∙ long-second
 
-  pass-at : (j : ℕ) → j < length (h .w) → at (passOf z u n h .w) j ≡ div binary64 (at (second .w) j) sum
+  pub pass-at : (j : ℕ) → j < length (h .w) → at (passOf z u n h .w) j ≡ div binary64 (at (second .w) j) sum
   unfolding passOf halvedTwice normalized
   pass-at j l = getD-tab (overAt sum (second .w)) (length (second .w)) j nan (rw long-second l)
 
-  pass-sound : passOf z u n h .good ≡ true → sound sum ≡ true
+  pub pass-sound : passOf z u n h .good ≡ true → sound sum ≡ true
   unfolding passOf halvedTwice
   pass-sound g = g
 
@@ -77,23 +83,17 @@ module _ (z : Float) (u : ℕ → ℕ → Float) (n : ℕ) (h : Halved) where
   moved-second : (j : ℕ) → Moved (first .w) (restOf (h .w)) j (at (second .w) j)
   moved-second = moved-once z u n (omegaOf (h .w)) (restOf (h .w)) first (rest-distinct (h .w)) (λ p l. rw long-first (rest-on (h .w) p l .below))
 
-  -- a zero stays as it is
-  zero-stays : (w : List Float) (rest : List ℕ) (j : ℕ) (v : Float) → isOn w j ≡ false → Moved w rest j v → v ≡ at w j
-  zero-stays w rest j v o (stays e) = e
-  zero-stays w rest j v o (doubled t a e) = absurd (never t o)
-  zero-stays w rest j v o (zeroed t a e) = absurd (never t o)
-
   after-zero : (j : ℕ) → isOn (first .w) j ≡ false → at (second .w) j ≡ at (first .w) j
   after-zero j o = zero-stays (first .w) (restOf (h .w)) j (at (second .w) j) o (moved-second j)
 
-  off-stays : (j : ℕ) → isOn (h .w) j ≡ false → at (second .w) j ≡ at (h .w) j
+  pub off-stays : (j : ℕ) → isOn (h .w) j ≡ false → at (second .w) j ≡ at (h .w) j
   off-stays j o =
       let e : at (first .w) j ≡ at (h .w) j = zero-stays (h .w) (restOf (h .w)) j (at (first .w) j) o (moved-first j) in
       after-zero j (rw e o) ∙ e
 
   module _ (good : passOf z u n h .good ≡ true) where
     -- what is zero before the division is zero after it
-    pass-off : (j : ℕ) → j < length (h .w) → isOn (second .w) j ≡ false → isOn (passOf z u n h .w) j ≡ false
+    pub pass-off : (j : ℕ) → j < length (h .w) → isOn (second .w) j ≡ false → isOn (passOf z u n h .w) j ≡ false
     pass-off j l o = rw (pass-at j l) (off-over (at (second .w) j) sum o (pass-sound good))
 
     -- a weight that is not 0 after the pass was not before
@@ -106,7 +106,7 @@ module _ (z : Float) (u : ℕ → ℕ → Float) (n : ℕ) (h : Halved) where
 
   module _ (some : 2 ≤ nonzeros (h .w)) where
     -- the first halving has the whole rest before it
-    whole-rest : remaining (h .w) (restOf (h .w)) ≡ restOf (h .w)
+    pub whole-rest : remaining (h .w) (restOf (h .w)) ≡ restOf (h .w)
     whole-rest =
         those-all (isOn (h .w)) (restOf (h .w)) (length (restOf (h .w))) (omega arith) (λ q l. rest-on (h .w) q l .on)
         ∙ take-all (length (restOf (h .w))) (restOf (h .w)) (omega arith)
@@ -171,7 +171,7 @@ both-moves w v rest j y (zeroed p b e) (stays g) = subst (Turned binary64 (at w 
 both-moves w v rest j y (zeroed p b e) (doubled o a g) = absurd (never o (rw e plus-zero-off))
 both-moves w v rest j y m (zeroed o a g) = subst (Turned binary64 (at w j)) (sym (g ∙ nought-is)) gone
 
-l1-is : (w : List Float) (k : ℕ) → length w ≡ k → l1Of plusZero w ≡ l1 binary64 (at w) k
+pub l1-is : (w : List Float) (k : ℕ) → length w ≡ k → l1Of plusZero w ≡ l1 binary64 (at w) k
 unfolding l1Of
 l1-is w k e = rw e (sum-up-is (λ j. absOf (at w j)) k)
 
@@ -180,6 +180,19 @@ not-among : (w : List Float) (rest : List ℕ) (j : ℕ) (v : Float) → (Among 
 not-among w rest j v n (stays e) = e
 not-among w rest j v n (doubled o a e) = absurd (n a)
 not-among w rest j v n (zeroed o a e) = absurd (n a)
+
+-- the heaviest of all is none of the rest, and stays
+module _ (z : Float) (u : ℕ → ℕ → Float) (n : ℕ) (h : Halved) where
+  pub heaviest-stays : at (second z u n h .w) (getD (ranked (h .w)) 0 0) ≡ at (h .w) (getD (ranked (h .w)) 0 0)
+  heaviest-stays =
+      not-among (first z u n h .w) (restOf (h .w)) top (at (second z u n h .w) top) apart (moved-second z u n h top)
+      ∙ not-among (h .w) (restOf (h .w)) top (at (first z u n h .w) top) apart (moved-first z u n h top)
+    where
+      top : ℕ
+      top = getD (ranked (h .w)) 0 0
+
+      apart : Among (restOf (h .w)) top → ⊥
+      apart a = first-kept (h .w) (a .place) (a .under) (a .there)
 
 module _ (u : ℕ → ℕ → Float) (n : ℕ) (h : Halved) (some : 2 ≤ nonzeros (h .w)) where
   abbrev after : List Float
@@ -193,9 +206,7 @@ module _ (u : ℕ → ℕ → Float) (n : ℕ) (h : Halved) (some : 2 ≤ nonzer
         each = λ j l. both-moves (h .w) (first plusZero u n h .w) (restOf (h .w)) j (at (second plusZero u n h .w) j) (moved-first plusZero u n h j) (moved-second plusZero u n h j);
         keeps = top;
         inside = top-on .below;
-        kept-as =
-            not-among (first plusZero u n h .w) (restOf (h .w)) top (at (second plusZero u n h .w) top) apart (moved-second plusZero u n h top)
-            ∙ not-among (h .w) (restOf (h .w)) top (at (first plusZero u n h .w) top) apart (moved-first plusZero u n h top);
+        kept-as = heaviest-stays plusZero u n h;
         support = subst T (sym (ap (ne (at (h .w) top)) (sym nought-is) ∙ top-on .on)) tt;
         divided = λ j l. pass-at plusZero u n h j l ∙ ap (div binary64 (at (second plusZero u n h .w) j)) sum-is;
       }
@@ -205,9 +216,6 @@ module _ (u : ℕ → ℕ → Float) (n : ℕ) (h : Halved) (some : 2 ≤ nonzer
 
       top-on : On (h .w) top
       top-on = ranked-on (h .w) 0 (rw length-ranked (omega arith))
-
-      apart : Among (restOf (h .w)) top → ⊥
-      apart a = first-kept (h .w) (a .place) (a .under) (a .there)
 
       sum-is : l1Of plusZero (second plusZero u n h .w) ≡ l1 binary64 (at (second plusZero u n h .w)) (length (h .w))
       sum-is = l1-is (second plusZero u n h .w) (length (h .w)) (long-second plusZero u n h)

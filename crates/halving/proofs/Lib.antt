@@ -7,6 +7,10 @@ pub mod Fates
 pub mod Minority
 pub mod Zeros
 pub mod Fewer
+pub mod Holding
+pub mod Heaviest
+pub mod Quarter
+pub mod Few
 pub mod Columns
 pub mod Calls
 pub mod Starts

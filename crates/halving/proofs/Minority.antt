@@ -1,20 +1,21 @@
 -- At most half of the colours are σ: of one colour or more at least one is not, and a lone colour never is.
 use borrow.Author.Tests.{leb-true, leb-false}
-use Prim.Native.Nat.{ℕ, zero, suc, _*_, _≤_, _<_}
-use mathlib.Core.Path.{_≡_, refl}
+use Prim.Native.Nat.{ℕ, zero, suc, _+_, _*_, _≤_, _<_}
+use mathlib.Core.Path.{_≡_, refl, sym, subst}
 use mathlib.Core.Logic.{_⊎_, inl, inr}
 use mathlib.Core.Bool.{Bool, true, false}
 use mathlib.Core.List.{List}
 use native.Mathlib.Decide.{ℕ-discrete}
 use native.Mathlib.Omega.{arith}
-use lib.Dec.{leb}
+use lib.Dec.{T, leb}
 use lib.ListN.{length}
 use lib.Ieee.{Float, lt, eq, ofBits}
 use Rattle.seq.specs.Choice.{pick}
 use Rattle.seq.specs.Sums.{plusZero, at}
 use Rattle.seq.specs.Keep.{count}
 use Rattle.direction.specs.Constants.{one, minusOne}
-use Rattle.coloring.proofs.Places.{count-none}
+use Rattle.ieee.proofs.Counting.{count-le}
+use Rattle.coloring.proofs.Places.{count-all}
 use Rattle.coloring.proofs.Marked.{Colour}
 use Rattle.coloring.proofs.Colours.{Coloured}
 use Rattle.halving.specs.Halving.{sigmaOf}
@@ -39,10 +40,17 @@ all-or-fails f (suc k) = go (f k) refl (all-or-fails f k)
         last p l (yes q) = rw q e
         last p l (no q) = s p (omega arith)
 
-count-all : (f : ℕ → Bool) (k : ℕ) → ((p : ℕ) → p < k → f p ≡ true) → count f k ≡ k
+-- two tests of which the second fails where the first holds
+apart-counts : (f g : ℕ → Bool) (k : ℕ) → ((p : ℕ) → p < k → f p ≡ true → g p ≡ false) → count f k + count g k ≤ k
 unfolding count
-count-all f zero h = refl
-count-all f (suc k) h = rw (h k (omega arith), count-all f k (λ p l. h p (omega arith)))
+apart-counts f g zero h = omega arith
+apart-counts f g (suc k) h = go (f k) (g k) (h k (omega arith)) (apart-counts f g k (λ p l. h p (omega arith)))
+  where
+    go : (s t : Bool) → (s ≡ true → t ≡ false) → count f k + count g k ≤ k → pick s (suc (count f k)) (count f k) + pick t (suc (count g k)) (count g k) ≤ suc k
+    go true true e r = absurd (subst T (e refl) tt)
+    go true false e r = omega arith
+    go false true e r = omega arith
+    go false false e r = omega arith
 
 -- ---- the two colours are told apart
 
@@ -73,29 +81,33 @@ is-minus-one (inr e) h = rw e minus-one-below
 
 -- ---- the minority
 
-pub minority : {k : ℕ} {x : List Float} → Coloured k x → 0 < k → Fails (λ p. eq (at x p) (sigmaOf x)) k
-minority {k} {x} c h = go (leb (2 * count up (length x)) (length x)) refl
+-- at most half of the colours are σ
+pub at-most-half : {k : ℕ} {x : List Float} → Coloured k x → 2 * count (λ p. eq (at x p) (sigmaOf x)) k ≤ k
+at-most-half {k} {x} c = go (leb (2 * count up (length x)) (length x)) refl
   where
     up : ℕ → Bool
     up p = lt plusZero (at x p)
 
-    go : (t : Bool) → leb (2 * count up (length x)) (length x) ≡ t → Fails (λ p. eq (at x p) (pick t one minusOne)) k
-    go true e = some (all-or-fails (λ p. eq (at x p) one) k)
-      where
-        some : ((p : ℕ) → p < k → eq (at x p) one ≡ true) ⊎ Fails (λ p. eq (at x p) one) k → Fails (λ p. eq (at x p) one) k
-        some (inr f) = f
-        some (inl all) =
-            let n : count up k ≡ k = count-all up k (λ p l. is-one (c .each p l) (all p l)) in
-            let l : 2 * count up k ≤ k = rw (c .long) at (leb-true (2 * count up (length x)) (length x) e) in
-            absurd (omega arith)
-    go false e = some (all-or-fails (λ p. eq (at x p) minusOne) k)
-      where
-        some : ((p : ℕ) → p < k → eq (at x p) minusOne ≡ true) ⊎ Fails (λ p. eq (at x p) minusOne) k → Fails (λ p. eq (at x p) minusOne) k
-        some (inr f) = f
-        some (inl all) =
-            let n : count up k ≡ 0 = count-none up k (λ p l. is-minus-one (c .each p l) (all p l)) in
-            let l : k < 2 * count up k = rw (c .long) at (leb-false (2 * count up (length x)) (length x) e) in
-            absurd (omega arith)
+    shown : (t : Bool) → T t → t ≡ true
+    shown true h = refl
+    shown false h = absurd h
+
+    go : (t : Bool) → leb (2 * count up (length x)) (length x) ≡ t → 2 * count (λ p. eq (at x p) (pick t one minusOne)) k ≤ k
+    go true e =
+        let n : count (λ p. eq (at x p) one) k ≤ count up k = count-le (λ p. eq (at x p) one) up k (λ p l h. subst T (sym (is-one (c .each p l) (shown (eq (at x p) one) h))) tt) in
+        let l : 2 * count up k ≤ k = rw (c .long) at (leb-true (2 * count up (length x)) (length x) e) in
+        omega arith
+    go false e =
+        let n : count (λ p. eq (at x p) minusOne) k + count up k ≤ k = apart-counts (λ p. eq (at x p) minusOne) up k (λ p l. is-minus-one (c .each p l)) in
+        let l : k < 2 * count up k = rw (c .long) at (leb-false (2 * count up (length x)) (length x) e) in
+        omega arith
+
+pub minority : {k : ℕ} {x : List Float} → Coloured k x → 0 < k → Fails (λ p. eq (at x p) (sigmaOf x)) k
+minority {k} {x} c h = some (all-or-fails (λ p. eq (at x p) (sigmaOf x)) k)
+  where
+    some : ((p : ℕ) → p < k → eq (at x p) (sigmaOf x) ≡ true) ⊎ Fails (λ p. eq (at x p) (sigmaOf x)) k → Fails (λ p. eq (at x p) (sigmaOf x)) k
+    some (inr f) = f
+    some (inl all) = absurd (omega (arith, count-all (λ p. eq (at x p) (sigmaOf x)) k all, at-most-half c))
 
 -- a lone colour is the majority, whichever it is
 pub lone : {x : List Float} → Coloured 1 x → eq (at x 0) (sigmaOf x) ≡ false

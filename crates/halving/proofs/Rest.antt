@@ -32,12 +32,12 @@ module _ (w : List Float) where
   pub ranked-on : (p : ℕ) → p < length (ranked w) → On w (getD (ranked w) p 0)
   ranked-on = every-at ranked-every
 
-  apart : (m n : ℕ) → m < n → n < length (support w) → getD (support w) n 0 ≡ getD (support w) m 0 → ⊥
-  apart m n l g e = let same : n ≡ m = distinct-at (distinct-keep (isOn w) (length w)) n m g (omega arith) e in omega arith
+  pub support-once : (m n : ℕ) → m < n → n < length (support w) → getD (support w) n 0 ≡ getD (support w) m 0 → ⊥
+  support-once m n l g e = let same : n ≡ m = distinct-at (distinct-keep (isOn w) (length w)) n m g (omega arith) e in omega arith
 
   ranked-distinct : Distinct (ranked w)
   unfolding ranked
-  ranked-distinct = distinct-sorted (heavier w) (λ p. getD (support w) p 0) (length (support w)) apart
+  ranked-distinct = distinct-sorted (heavier w) (λ p. getD (support w) p 0) (length (support w)) support-once
 
   -- each index stands once in it
   pub ranked-once : (p q : ℕ) → p < length (ranked w) → q < length (ranked w) → getD (ranked w) p 0 ≡ getD (ranked w) q 0 → p ≡ q

@@ -5,6 +5,7 @@ use mathlib.Core.Path.{_≡_, refl, sym, ap, _∙_, subst}
 use mathlib.Core.Bool.{Bool, true, false, not, _&&_}
 use native.Mathlib.Nat.{mul-pos, zero-lt-suc}
 use native.Mathlib.Omega.{arith}
+use lib.IntN.{ℤ, pos}
 use lib.Dec.{T}
 use lib.Ieee.{Float, nan, inf, fin, Format, binary64, round, div, lt, ne, below, up, down, unlike}
 use lib.Ieee.Fits.{up-pos, down-pos}
@@ -12,6 +13,7 @@ use lib.Ieee.Scale.{finite}
 use Rattle.seq.specs.Sums.{plusZero}
 use Rattle.ieee.specs.Flat.{isZero}
 use Rattle.ieee.proofs.Flat.{round-zero}
+use Rattle.ieee.proofs.Ops.{unlike-false}
 use Rattle.ieee.proofs.Signs.{nought, nought-is}
 use Rattle.ieee.proofs.Zeros.{nonzero-not-zero}
 use Rattle.halving.specs.Weights.{sound}
@@ -24,18 +26,24 @@ not-above false a b h k = rw (h, k)
 none-times : (a b : ℕ) → 0 * a * b ≡ 0
 none-times a b = omega arith
 
-pub zero-over : (f : Format) (x d : Float) → T (isZero x) → T (lt nought d) → T (finite d) → T (isZero (div f x d))
+-- it keeps its sign
+pub zero-over-is : (f : Format) (s : Bool) (e : ℤ) (d : Float) → T (lt nought d) → T (finite d) → div f (fin s zero e) d ≡ fin s zero (pos 0)
 unfolding div lt
+zero-over-is f s e nan p q = absurd q
+zero-over-is f s e (inf t) p q = absurd q
+zero-over-is f s e (fin true n i) p q = absurd p
+zero-over-is f s e (fin false zero i) p q = absurd (subst T (not-above false (0 * 1 * down i) (0 * up i * 1) (none-times 1 (down i)) (none-times (up i) 1)) p)
+zero-over-is f s e (fin false (suc n) i) p q =
+    rw (ne-eqb (suc n) 0 (λ e. omega arith))
+    (ap (λ (a : ℕ). round f (unlike s false) a (suc n * up i * down e)) (none-times (up e) (down i))
+    ∙ round-zero f (unlike s false) (suc n * up i * down e) (mul-pos (mul-pos (zero-lt-suc n) (up-pos i)) (down-pos e))
+    ∙ ap (λ (t : Bool). fin t zero (pos 0)) (unlike-false s))
+
+pub zero-over : (f : Format) (x d : Float) → T (isZero x) → T (lt nought d) → T (finite d) → T (isZero (div f x d))
 zero-over f nan d h p q = absurd h
 zero-over f (inf s) d h p q = absurd h
 zero-over f (fin s (suc m) e) d h p q = absurd h
-zero-over f (fin s zero e) nan h p q = absurd q
-zero-over f (fin s zero e) (inf t) h p q = absurd q
-zero-over f (fin s zero e) (fin t zero i) h p q = absurd (subst T (not-above t (0 * 1 * down i) (0 * up i * 1) (none-times 1 (down i)) (none-times (up i) 1)) p)
-zero-over f (fin s zero e) (fin t (suc n) i) h p q =
-    rw (ne-eqb (suc n) 0 (λ e. omega arith))
-    (subst (λ (v : Float). T (isZero v))
-    (sym (ap (λ (a : ℕ). round f (unlike s t) a (suc n * up i * down e)) (none-times (up e) (down i)) ∙ round-zero f (unlike s t) (suc n * up i * down e) (mul-pos (mul-pos (zero-lt-suc n) (up-pos i)) (down-pos e)))) tt)
+zero-over f (fin s zero e) d h p q = subst (λ (v : Float). T (isZero v)) (sym (zero-over-is f s e d p q)) tt
 
 -- the two parts of a sound sum
 pub sound-above : (d : Float) → sound d ≡ true → T (lt nought d)
@@ -60,7 +68,7 @@ positive-sound d a f = go (lt plusZero d) (finite d) (subst T (ap (λ (v : Float
     go true false k l = absurd l
     go false t k l = absurd k
 
-off-zero : (x : Float) → ne x plusZero ≡ false → T (isZero x)
+pub off-zero : (x : Float) → ne x plusZero ≡ false → T (isZero x)
 off-zero x h = go (isZero x) (sym (nonzero-not-zero x) ∙ ap (ne x) (sym nought-is) ∙ h)
   where
     go : (t : Bool) → not t ≡ false → T t

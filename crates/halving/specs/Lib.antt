@@ -3,3 +3,4 @@ pub mod Weights
 pub mod Ranking
 pub mod Halving
 pub mod Halves
+pub mod Alone

@@ -12,4 +12,6 @@ pub mod Passing
 pub mod Trying
 pub mod Finishing
 pub mod DemandThree
+pub mod Settled
+pub mod Hundred
 pub mod Starts

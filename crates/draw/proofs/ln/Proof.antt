@@ -11,7 +11,7 @@ use lib.IntN.{pos}
 use lib.Bits.{and-mask, mask-lt}
 use lib.Ieee.{fin, binary64, toBits, ofBits, inFloat, neg, div, ofInt}
 use Rattle.draw.specs.Logarithm.{ratio, oddSum, low, places, third, depth, logarithmOf}
-use Rattle.draw.proofs.Logs.{never-below, ratio-small}
+use Rattle.draw.proofs.Logs.{never-below, ratio-third}
 use Rattle.draw.proofs.Values.{number}
 use Rattle.draw.proofs.ln.Statement.{statement}
 use Rattle.draw.proofs.ln.Tie as tie
@@ -52,7 +52,7 @@ unfolding logarithmOf
 at-more b h = rw (ne-eqb (depth b) 0 h)
 
 odd-sum-requires : tie.Need-odd-sum-requires
-odd-sum-requires c κs = omega (arith, quotient c, ratio-small (toBits binary64 (c .before .args .u)) (c .before .pre .1))
+odd-sum-requires c κs = omega (arith, quotient c, ratio-third (toBits binary64 (c .before .args .u)) (c .before .pre .1))
 
 sub-depth : tie.Need-sub-depth
 sub-depth c = rw (summed c) (never-below (toBits binary64 (c .before .before .args .u)) (c .before .before .pre .1))

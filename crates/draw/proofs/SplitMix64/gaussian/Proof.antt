@@ -11,6 +11,7 @@ use Rattle.draw.specs.Uniform.{uniformOf}
 use Rattle.draw.specs.Cosine.{cosOf, tau}
 use Rattle.draw.specs.Logarithm.{lnOf}
 use Rattle.draw.specs.Gaussian.{gaussianOf}
+use Rattle.draw.proofs.CosTurns.{unit-is}
 use Rattle.draw.proofs.Ready.{ln-ready, cos-ready, output-lt}
 use Rattle.draw.proofs.SplitMix64.gaussian.Statement.{statement}
 use Rattle.draw.proofs.SplitMix64.gaussian.Tie as tie
@@ -34,26 +35,33 @@ uniform-requires-2 c κs = search needs
 
 ln-requires : tie.Need-ln-requires
 ln-requires c κs =
-    let s = c .before .before .before .before .args .self .state in
-    rw (c .before .before .before .uniform .ensures .0) (ln-ready (outputOf s) (output-lt s))
+    let first = c .before .before .before in
+    let s = first .before .args .self .state in
+    rw (first .uniform .ensures .0) (ln-ready (outputOf s) (output-lt s))
+
+cos-sums-requires : tie.Need-cos-sums-requires
+cos-sums-requires c κs =
+    let drawn = c .before .before .before in
+    let s = afterOf (drawn .before .before .before .args .self .state) in
+    rw (second drawn) (cos-ready (outputOf s) (output-lt s))
 
 sqrt-requires : tie.Need-sqrt-requires
 sqrt-requires c κs = search needs
 
-cos-requires : tie.Need-cos-requires
-cos-requires c κs =
-    let drawn = c .before .before .before .before in
-    let s = afterOf (drawn .before .before .before .args .self .state) in
-    rw (second drawn) (cos-ready (outputOf s) (output-lt s))
+unit-requires : tie.Need-unit-requires
+unit-requires c κs = search needs
 
 returns : tie.Need-returns
 returns c =
-    let rooted = c .before .before in
-    let drawn = rooted .before .before .before in
+    let rooted = c .before in
+    let turned = rooted .before in
+    let logged = turned .before .before in
+    let drawn = logged .before .before in
     let first = drawn .before .before in (
-      together (first .before .args .self .state) (first .uniform .ensures .0) (second drawn) (rooted .before .ln .ensures) (rooted .sqrt .ensures) (c .cos .ensures),
+      together (first .before .args .self .state) (first .uniform .ensures .0) (second drawn) (logged .ln .ensures) (rooted .sqrt .ensures)
+          (unit-is _ (turned .cos-sums .ensures .0) (c .unit .ensures)),
       drawn .uniform2 .ensures .1 ∙ ap afterOf (first .uniform .ensures .1),
     )
 
 pub gaussian-spec : {M : Type 1} → statement M
-gaussian-spec = tie.close (tie.spec uniform-requires uniform-requires-2 ln-requires sqrt-requires cos-requires returns)
+gaussian-spec = tie.close (tie.spec uniform-requires uniform-requires-2 ln-requires cos-sums-requires sqrt-requires unit-requires returns)

@@ -1,11 +1,11 @@
--- `archive::print_bits` meets its contract: what equals itself has bits.
+-- `report::print_bits` meets its contract: what equals itself has bits.
 use mathlib.Core.Bool.{true, not, false≢true}
 use lib.Dec.{T}
 use lib.Ieee.{Float, nan, inf, fin, eq, isNan}
 use borrow.Author.Needs.{needs}
 use mathlib.Core.Path.{_≡_}
-use Rattle.archive.proofs.print_bits.Statement.{statement}
-use Rattle.archive.proofs.print_bits.Tie as tie
+use Rattle.report.proofs.print_bits.Statement.{statement}
+use Rattle.report.proofs.print_bits.Tie as tie
 
 -- what equals itself is no NaN
 no-nan : (x : Float) → eq x x ≡ true → T (not (isNan x))

@@ -1,9 +1,9 @@
--- `cases::main` meets its contract: the seeds are counted up.
+-- `cases::seeded` meets its contract: the seeds are counted up.
 use borrow.Author.Needs.{needs}
 use Prim.Native.Nat.{_-_, _≤_}
 use native.Mathlib.Omega.{arith}
-use Rattle.cases.proofs.main.Statement.{statement}
-use Rattle.cases.proofs.main.Tie as tie
+use Rattle.cases.proofs.seeded.Statement.{statement}
+use Rattle.cases.proofs.seeded.Tie as tie
 
 abbrev Inv-loop : tie.InvT-loop
 Inv-loop seed₀ seed = seed ≤ 8
@@ -29,8 +29,8 @@ loop-again c = omega arith
 returns : tie.Need-returns Inv-loop μ-loop
 returns c = tt
 
-pub main-spec : {M : Type 1} → statement M
-main-spec =
+pub seeded-spec : {M : Type 1} → statement M
+seeded-spec =
     tie.close
     (tie.spec
     Inv-loop

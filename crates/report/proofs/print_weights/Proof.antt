@@ -1,22 +1,22 @@
--- `archive::show_weights` meets its contract: it goes through the weights.
+-- `report::print_weights` meets its contract: it goes through the weights.
 use borrow.Author.Needs.{needs}
 use Prim.Native.Nat.{_-_, _≤_}
 use native.Mathlib.Omega.{arith}
 use lib.ListN.{length}
-use Rattle.archive.proofs.show_weights.Statement.{statement}
-use Rattle.archive.proofs.show_weights.Tie as tie
+use Rattle.report.proofs.print_weights.Statement.{statement}
+use Rattle.report.proofs.print_weights.Tie as tie
 
 abbrev Inv-loop : tie.InvT-loop
-Inv-loop output j₀ j = j ≤ length output
+Inv-loop w j₀ j = j ≤ length w
 
 abbrev μ-loop : tie.MeasureT-loop
-μ-loop output j₀ j = length output - j
+μ-loop w j₀ j = length w - j
 
 loop-holds : tie.Need-loop-holds Inv-loop μ-loop
 loop-holds c = omega arith
 
-put-requires : tie.Need-put-requires Inv-loop μ-loop
-put-requires c κs = search needs
+tab-requires : tie.Need-tab-requires Inv-loop μ-loop
+tab-requires c κs = search needs
 
 mul-print-bits : tie.Need-mul-print-bits Inv-loop μ-loop
 mul-print-bits c = search needs
@@ -39,14 +39,14 @@ loop-again c = omega arith
 returns : tie.Need-returns Inv-loop μ-loop
 returns c = tt
 
-pub show-weights-spec : {M : Type 1} → statement M
-show-weights-spec =
+pub print-weights-spec : {M : Type 1} → statement M
+print-weights-spec =
     tie.close
     (tie.spec
     Inv-loop
     μ-loop
     loop-holds
-    put-requires
+    tab-requires
     mul-print-bits
     shared-slice-read-print-bits
     print-bits-requires

@@ -1,0 +1,42 @@
+// What the programs print: text, the bits of a double, weights, an answer.
+use sparsification::Answer;
+
+// A text.
+pub fn put(text: &[u8]) {
+    io::write_all(1, text);
+}
+
+// The end of a field.
+pub fn tab() {
+    put(b"\t");
+}
+
+// The bits of a double; a NaN prints as 0.
+pub fn print_bits(x: f64) {
+    if x == x {
+        io::print_hex(1, f64::to_bits(x), 16);
+    } else {
+        io::print_hex(1, 0, 16);
+    }
+}
+
+// Number, stage, nonzero entries and change of an answer, parted by tabs.
+pub fn print_answer(a: Answer) {
+    io::print_decimal(1, a.number);
+    tab();
+    io::print_decimal(1, a.stage);
+    tab();
+    io::print_decimal(1, a.nonzeros);
+    tab();
+    print_bits(a.change);
+}
+
+// Weights, a tab before each.
+pub fn print_weights(w: &[f64]) {
+    let mut j = 0usize;
+    while j < w.len() {
+        tab();
+        print_bits(w[j]);
+        j += 1;
+    }
+}

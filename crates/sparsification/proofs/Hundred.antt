@@ -1,0 +1,54 @@
+-- C9: of a support of 100 with target 99 at most 49 remain. The first pass keeps 33 and leaves at most a quarter of the other 67, and the job stops there.
+use Prim.Native.Nat.{ℕ, _≤_}
+use mathlib.Core.Path.{_≡_, ap}
+use mathlib.Core.Bool.{true, false}
+use mathlib.Core.List.{List}
+use native.Mathlib.Omega.{arith}
+use borrow.Author.Tests.{le-leb}
+use lib.ListN.{length}
+use lib.Ieee.{Float, binary64}
+use Rattle.seq.specs.Sums.{plusZero, at}
+use Rattle.limits.specs.Matrix.{columnsOf}
+use Rattle.ieee.proofs.Normalised.{Normal}
+use Rattle.halving.specs.Weights.{nonzeros, normalized}
+use Rattle.halving.specs.Halves.{halvesOf}
+use Rattle.halving.proofs.Fewer.{pass-good}
+use Rattle.halving.proofs.Quarter.{pass-at-most}
+use Rattle.sparsification.specs.Stages.{stageOf}
+use Rattle.sparsification.specs.Stopping.{entriesAt, stops}
+use Rattle.sparsification.specs.Answers.{Thinned}
+use Rattle.sparsification.specs.declared.Answer.{Answer}
+use Rattle.sparsification.specs.declared.Rule.the-variants.{Target}
+use Rattle.sparsification.proofs.Halting.{FirstStop}
+use Rattle.sparsification.proofs.Accepting.{accepted, number-none}
+use Rattle.sparsification.proofs.DemandThree.{Doubles, start-normal, start-few}
+use Rattle.sparsification.proofs.Settled.{first-sound, settled}
+
+module _ (u : ℕ → ℕ → Float) (n : ℕ) (start : List Float) (seed : ℕ) (normal : Normal binary64 (length start) (at start)) (short : length start ≤ 256) (many : nonzeros start ≡ 100) where
+  before : entriesAt plusZero u n start seed 0 ≡ 100
+  unfolding stageOf
+  before = many
+
+  after : entriesAt plusZero u n start seed 1 ≤ 49
+  unfolding stageOf
+  after = omega (arith, pass-at-most plusZero u n (halvesOf start seed) (omega arith) (pass-good u n (halvesOf start seed) (omega arith) normal short), many)
+
+  goes-on : stops plusZero u n start seed (Target 99) 0 ≡ false
+  goes-on = rw (before, first-sound u n start seed normal short (omega (arith, before)))
+
+  ends : stops plusZero u n start seed (Target 99) 1 ≡ true
+  ends = rw (le-leb (entriesAt plusZero u n start seed 1) 99 (omega (arith, after)))
+
+  first-pass : FirstStop plusZero u n start seed (Target 99) 1
+  first-pass = record { there = ends; before = λ i l. let e : i ≡ 0 = omega arith in rw e goes-on }
+
+pub at-most-49 : {seed : ℕ} {u : List Float} {m n : ℕ} {w output numbers : List Float} {indices : List ℕ} {r : Answer} {output' numbers' : List Float} {indices' : List ℕ}
+    → Thinned (Target 99) seed u m n w output numbers indices r output' numbers' indices' → Doubles w → r .number ≡ 0 → nonzeros (normalized plusZero w) ≡ 100
+    → (r .stage ≡ 1) × (r .nonzeros ≤ 49)
+at-most-49 {seed} {u} {m} {n} {w} {output} {numbers} {indices} {r} job doubles zero many =
+    let f = number-none job zero .0 in
+    let a = accepted (Target 99) u m n w (length output) (length numbers) (length indices) f in
+    let normal = start-normal doubles a in
+    let short = start-few doubles a in
+    let s = settled job doubles f 1 (first-pass (columnsOf u n) n (normalized plusZero w) seed normal short many) .0 in
+    (ap (λ (z : Answer). z .stage) s, rw s (after (columnsOf u n) n (normalized plusZero w) seed normal short many))
