@@ -123,6 +123,16 @@ uint64_t knob_turned_words(const double *matrix, size_t matrix_length, size_t m,
                            const double *before, size_t before_length, const double *after, size_t after_length,
                            uint64_t *count);
 
+/* The answer of a sheet: text bytes in, answer bytes out. The first line of a sheet is `thin`, m (at most 32), n (at most 64), the seed,
+   and then `target` and a count, or `within`, an allowance, and a cap or `-`; then there is a line for each column: `col`, its weight
+   and its n entries. Fields are parted by single tabs, every line ends in a newline, doubles and the seed are the 16 upper-case hex
+   digits of their bits, counts are decimal without leading zeros and at most 4294967295. The answer is `ok`, stage, nonzeros and
+   change and then a line `w`, index, weight for each column; or `refused` and the number; or `bad` and the number of the first line
+   that is off the form, from 1. Any bytes may be given. Returns how many bytes were written to answer; where the answer is longer than
+   answer_length, 0, and nothing is written. KNOB_SHEET_ANSWER bytes are enough for every answer. Uses about 80 KiB of stack. */
+#define KNOB_SHEET_ANSWER 1342
+size_t knob_thin_sheet(const uint8_t *text, size_t text_length, uint8_t *answer, size_t answer_length);
+
 #ifdef __cplusplus
 }
 #endif

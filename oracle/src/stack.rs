@@ -1,6 +1,7 @@
-// needs: knob_discrepancy_coloring knob_sparsify knob_sparsify_within knob_max_margin_change knob_turned_words
+// needs: knob_discrepancy_coloring knob_sparsify knob_sparsify_within knob_max_margin_change knob_turned_words knob_thin_sheet
 //! The stack that each call uses, at the largest sizes: the stack below a call is painted before it, and what is left of the paint is
-//! counted after it. The lent scratch is all else that a call may use, so this is its whole memory.
+//! counted after it. The lent scratch is all else that a call may use, so this is its whole memory. A sheet's call has its scratch on the
+//! stack too, and so may use twice as much.
 
 #[path = "shared/chance.rs"]
 mod chance;
@@ -18,6 +19,10 @@ mod thinning_calls;
 use chance::Chance;
 use std::hint::black_box;
 use tally::{end, Tally};
+
+extern "C" {
+    fn knob_thin_sheet(text: *const u8, text_length: usize, answer: *mut u8, answer_length: usize) -> usize;
+}
 
 /// How much is painted, and how much a call may use.
 const PAINTED: usize = 1 << 19;
@@ -52,12 +57,12 @@ fn used() -> usize {
     deepest
 }
 
-fn measure(name: &str, tally: &mut Tally, mut call: impl FnMut() -> u64) {
+fn measure(name: &str, allowed: usize, tally: &mut Tally, mut call: impl FnMut() -> u64) {
     paint();
     let number = call();
     let bytes = used();
     println!("{name:<44} {bytes:>8} bytes");
-    tally.note(number == 0 && bytes < ALLOWED, || format!("{name}: number {number}, {bytes} bytes"));
+    tally.note(number == 0 && bytes < allowed, || format!("{name}: number {number}, {bytes} bytes"));
 }
 
 fn all() -> Tally {
@@ -72,7 +77,7 @@ fn all() -> Tally {
     let (lent, length) = (matrix.as_ptr(), matrix.len());
     let mut answer = thinning_calls::Answer { number: 0, stage: 0, nonzeros: 0, change: 0.0 };
     let (numbers_at, indices_at) = ((numbers.as_mut_ptr(), numbers.len()), (indices.as_mut_ptr(), indices.len()));
-    measure("discrepancy_coloring", &mut tally, || unsafe {
+    measure("discrepancy_coloring", ALLOWED, &mut tally, || unsafe {
         coloring_call::knob_discrepancy_coloring(
             lent,
             length,
@@ -87,7 +92,7 @@ fn all() -> Tally {
             indices_at.1,
         )
     });
-    measure("sparsify", &mut tally, || unsafe {
+    measure("sparsify", ALLOWED, &mut tally, || unsafe {
         let (w, out) = (weights.as_ptr(), output.as_mut_ptr());
         let (numbers, indices) = (numbers_at, indices_at);
         thinning_calls::knob_sparsify(
@@ -95,7 +100,7 @@ fn all() -> Tally {
         );
         answer.number
     });
-    measure("sparsify_within", &mut tally, || unsafe {
+    measure("sparsify_within", ALLOWED, &mut tally, || unsafe {
         let (w, out) = (weights.as_ptr(), output.as_mut_ptr());
         let (numbers, indices) = (numbers_at, indices_at);
         thinning_calls::knob_sparsify_within(
@@ -104,11 +109,21 @@ fn all() -> Tally {
         answer.number
     });
     let (before, after) = (weights.as_ptr(), output.as_ptr());
-    measure("max_margin_change", &mut tally, || unsafe {
+    measure("max_margin_change", ALLOWED, &mut tally, || unsafe {
         margin_calls::knob_max_margin_change(lent, length, m, n, before, m, after, m, &mut 0.0)
     });
-    measure("turned_words", &mut tally, || unsafe {
+    measure("turned_words", ALLOWED, &mut tally, || unsafe {
         margin_calls::knob_turned_words(lent, length, m, n, before, m, after, m, &mut 0)
+    });
+    let mut text = format!("thin\t32\t64\t{:016X}\ttarget\t1\n", 1);
+    for _ in 0..32 {
+        let entries: String = (0..64).map(|_| format!("\t{:016X}", chance.signed().to_bits())).collect();
+        text += &format!("col\t{:016X}{entries}\n", (chance.unit() + 0.5).to_bits());
+    }
+    let mut said = vec![0u8; 1342];
+    measure("thin_sheet", 2 * ALLOWED, &mut tally, || {
+        let end = unsafe { knob_thin_sheet(text.as_ptr(), text.len(), said.as_mut_ptr(), said.len()) };
+        u64::from(!said[..end].starts_with(b"ok\t"))
     });
     tally
 }

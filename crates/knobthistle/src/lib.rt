@@ -3,6 +3,7 @@ use coloring::discrepancy::discrepancy_coloring;
 use draw::SplitMix64;
 use margins::max_margin_change;
 use margins::turned_words;
+use sheet::thin_sheet;
 use sparsification::Answer;
 use sparsification::Cap;
 use sparsification::sparsify;
@@ -17,6 +18,7 @@ ghost use Rattle.knobthistle.specs.Caps.{capOf};
 ghost use Rattle.sparsification.specs.Answers.{Thinned};
 ghost use Rattle.sparsification.specs.declared.Rule.the-variants.{Target, Within};
 ghost use Rattle.margins.specs.Answers.{changeAnswer, turnedAnswer};
+ghost use Rattle.sheet.specs.Steps.{Answered};
 
 // The next uniform draw; the state moves on.
 #[no_mangle]
@@ -180,4 +182,12 @@ pub extern "C" fn knob_sparsify_within(
         numbers,
         indices,
     )
+}
+
+// The answer of a sheet in a lent buffer: its length, or 0 where it does not fit, which leaves the buffer as it was.
+#[no_mangle]
+pub extern "C" fn knob_thin_sheet(text: &[u8], answer: &mut [u8]) -> usize
+    ensures { λ r. ⌜ Answered (now (text .entry)) (now (answer .entry)) r (now (answer .exit)) ⌝ }
+{
+    thin_sheet(text, answer)
 }

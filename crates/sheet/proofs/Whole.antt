@@ -1,0 +1,149 @@
+-- The answer of a whole sheet: what is read from it, its answer in the buffer of the program and in the caller's, that no second answer fits, and how
+-- long an answer can be.
+use borrow.Author.Tests.{eq-eqb, ne-eqb, eqb-true, leb-true, le-leb, lt-leb}
+use Prim.Native.Nat.{ℕ, _+_, _*_, _≤_, _<_}
+use mathlib.Core.Path.{_≡_, refl, sym, ap, _∙_}
+use mathlib.Core.Bool.{Bool, true, false}
+use mathlib.Core.List.{List, [], _∷_, _++_}
+use native.Mathlib.Nat.{mul-le-mul}
+use native.Mathlib.Omega.{arith}
+use lib.Dec.{eqb, leb}
+use lib.ListN.{length, take, drop, length-append, length-take}
+use lib.Seq.{length-take-le, take-at}
+use lib.Ieee.{Float}
+use Rattle.seq.specs.Choice.{pick}
+use Rattle.seq.specs.Lists.{tabulate}
+use Rattle.seq.specs.Sums.{plusZero}
+use Rattle.seq.proofs.Filling.{length-tab}
+use Rattle.fields.proofs.Widths.{length-count, width-most}
+use Rattle.limits.specs.Matrix.{columnsOf}
+use Rattle.halving.specs.Weights.{normalized}
+use Rattle.sparsification.specs.declared.Answer.{Answer}
+use Rattle.sparsification.specs.declared.Rule.{Rule}
+use Rattle.sparsification.specs.Answers.{returned, stopFor}
+use Rattle.sparsification.proofs.Lengths.{length-normalized, length-stage}
+use Rattle.form.specs.declared.Head.{Head}
+use Rattle.form.specs.Form.{headOf, wrongLine}
+use Rattle.form.specs.Reading.{doubleAt, weightPlace, weightsOf, matrixOf}
+use Rattle.form.proofs.Lines.{right}
+use Rattle.form.proofs.Verdicts.{Sized, sized}
+use Rattle.fields.specs.Bytes.{newline}
+use Rattle.fields.specs.Texts.{countText}
+use Rattle.sheet.specs.Words.{badWord, refusedWord}
+use Rattle.sheet.specs.Answer.{noteText, okLine, weightLines, answerText, jobAnswer, jobText, sheetAnswer}
+use Rattle.sheet.specs.Steps.{Wrote, Answered}
+use Rattle.sheet.proofs.Lines.{length-ok, length-lines}
+
+-- the sizes of a sheet of the form
+pub sizes-of : (t : List ℕ) (h : Head) (line : ℕ) → line ≡ wrongLine t → line ≡ 0 → h ≡ headOf t → Sized h
+sizes-of t h line e z g = sized t h g (ap (λ (k : Head). k .ok) g ∙ right t (sym e ∙ z) .first)
+
+-- so many entries there is room for
+pub few : (m n : ℕ) → m ≤ 32 → n ≤ 64 → m * n ≤ 2048
+few m n h g = mul-le-mul h g
+
+-- the front of an array is no longer than it is asked to be
+pub front-most : (k : ℕ) (xs : List Float) (b : ℕ) → k ≤ length xs → k ≤ b → length (take k xs) ≤ b
+front-most k xs b h g = omega (arith, length-take-le k xs h)
+
+-- an array whose front was lent and came back as ys
+module _ (k : ℕ) (ys array : List Float) where
+  pub front-there : length ys ≡ length (take k array) → k ≤ length array → k ≤ length (ys ++ drop k array)
+  front-there e h = omega (arith, length-append ys (drop k array), length-take-le k array h)
+
+  pub front-whole : length ys ≡ length (take k array) → k ≤ length array → k ≡ length (take k (ys ++ drop k array))
+  front-whole e h = sym (length-take-le k (ys ++ drop k array) (front-there e h))
+
+  pub front-read : (f : ℕ → Float) → ys ≡ tabulate f (length (take k array)) → k ≤ length array → take k (ys ++ drop k array) ≡ tabulate f k
+  front-read f e h =
+      let g : ys ≡ tabulate f k = e ∙ ap (tabulate f) (length-take-le k array h) in
+      take-at ys (drop k array) k (ap length g ∙ length-tab f k) ∙ g
+
+pub job-read : (t : List ℕ) (h : Head) (u w : List Float) (out : List ℕ) (r : ℕ) (out' : List ℕ) → u ≡ matrixOf t h → w ≡ weightsOf t h
+    → Wrote (jobText (h .rule) (h .seed) u (h .m) (h .n) w) out r out'
+    → Wrote (jobText (h .rule) (h .seed) (matrixOf t h) (h .m) (h .n) (weightsOf t h)) out r out'
+job-read t h u w out r out' e f g = rw (← e, ← f) g
+
+pub sheet-bad : (t : List ℕ) (line : ℕ) (out : List ℕ) (r : ℕ) (out' : List ℕ) → line ≡ wrongLine t → (line ≡ 0 → ⊥) → Wrote (noteText badWord line) out r out'
+    → Wrote (sheetAnswer t) out r out'
+unfolding sheetAnswer
+sheet-bad t line out r out' e h g = rw (← e, ne-eqb line 0 h) g
+
+pub sheet-good : (t : List ℕ) (line : ℕ) (h : Head) (out : List ℕ) (r : ℕ) (out' : List ℕ) → line ≡ wrongLine t → line ≡ 0 → h ≡ headOf t
+    → Wrote (jobText (h .rule) (h .seed) (matrixOf t h) (h .m) (h .n) (weightsOf t h)) out r out'
+    → Wrote (sheetAnswer t) out r out'
+unfolding sheetAnswer
+sheet-good t line h out r out' e z g w = rw (eq-eqb (wrongLine t) 0 (sym e ∙ z)) (rw g at w)
+
+-- the text ends within the buffer
+pub wrote-room : (t out : List ℕ) (r : ℕ) (out' : List ℕ) → Wrote t out r out' → r ≤ length out'
+wrote-room t out r out' w = omega (arith, w .long, ap length (w .front), length-take r out')
+
+-- an answer that does not fit, and one that does
+pub does-not-fit : (t answer out : List ℕ) (r : ℕ) (out' : List ℕ) → Wrote (sheetAnswer t) out r out' → length answer < r → Answered t answer 0 answer
+does-not-fit t answer out r out' w h =
+    let f = lt-leb (length (sheetAnswer t)) (length answer) (omega (arith, w .long)) in
+    record { says = rw f; writes = rw f }
+
+pub does-fit : (t answer out : List ℕ) (r : ℕ) (out' ys answer' : List ℕ) → Wrote (sheetAnswer t) out r out' → r ≤ length answer → ys ≡ take r out'
+    → answer' ≡ ys ++ drop r answer → Answered t answer r answer'
+does-fit t answer out r out' ys answer' w h e g =
+    let f = le-leb (length (sheetAnswer t)) (length answer) (omega (arith, w .long)) in
+    let l : length (sheetAnswer t) ≡ r = sym (w .long) in
+    record { says = rw (f, l); writes = rw (f, l) (g ∙ ap (λ (s : List ℕ). s ++ drop r answer) (e ∙ w .front)) }
+
+-- no second answer fits
+pub sole-answer : {t answer : List ℕ} {r s : ℕ} {one two : List ℕ} → Answered t answer r one → Answered t answer s two → (r ≡ s) × (one ≡ two)
+sole-answer p q = (p .says ∙ sym (q .says), p .writes ∙ sym (q .writes))
+
+-- how long a note and a job's answer can be
+length-note : (word : List ℕ) (x : ℕ) → length (noteText word x) ≤ length word + 21
+unfolding noteText
+length-note word x =
+    rw (length-append word (countText x ++ (newline ∷ [])), length-append (countText x) (newline ∷ [])) (omega (arith, length-count x, width-most x))
+
+length-answer : (s : Answer) (w : List Float) → length w ≤ 32 → length (answerText s w) ≤ 1342
+unfolding answerText
+length-answer s w h = go (eqb (s .number) 0)
+  where
+    go : (t : Bool) → length (pick t (okLine s ++ weightLines w (length w)) (noteText refusedWord (s .number))) ≤ 1342
+    go true = rw (length-append (okLine s) (weightLines w (length w))) (omega (arith, length-ok s, length-lines w (length w)))
+    go false = omega (arith, length-note refusedWord (s .number))
+
+length-returned : (u : List Float) (n : ℕ) (w : List Float) (seed : ℕ) (rule : Rule) → length (returned u n w seed rule .w) ≡ length w
+length-returned u n w seed rule =
+    length-stage plusZero (columnsOf u n) n (normalized plusZero w) seed (stopFor u n w seed rule) ∙ length-normalized plusZero w
+
+length-job : (t : List ℕ) (h : Head) → h .m ≤ 32 → length (jobText (h .rule) (h .seed) (matrixOf t h) (h .m) (h .n) (weightsOf t h)) ≤ 1342
+length-job t h g =
+    length-answer (jobAnswer (h .rule) (h .seed) (matrixOf t h) (h .m) (h .n) (weightsOf t h)) (returned (matrixOf t h) (h .n) (weightsOf t h) (h .seed) (h .rule) .w)
+    (omega (arith, length-returned (matrixOf t h) (h .n) (weightsOf t h) (h .seed) (h .rule), length-tab (λ j. doubleAt t (weightPlace (h .next) (h .n) j)) (h .m)))
+
+-- every answer has at most 1342 bytes
+pub answer-most : (t : List ℕ) → length (sheetAnswer t) ≤ 1342
+unfolding sheetAnswer
+answer-most t = go (eqb (wrongLine t) 0) refl
+  where
+    go : (s : Bool) → eqb (wrongLine t) 0 ≡ s
+        → length (pick s (jobText (headOf t .rule) (headOf t .seed) (matrixOf t (headOf t)) (headOf t .m) (headOf t .n) (weightsOf t (headOf t))) (noteText badWord (wrongLine t))) ≤ 1342
+    go true e = length-job t (headOf t) (sizes-of t (headOf t) (wrongLine t) refl (eqb-true (wrongLine t) 0 e) refl .columns)
+    go false e = omega (arith, length-note badWord (wrongLine t))
+
+-- so a buffer of 1342 bytes always gets the answer
+pub always-fits : {t answer : List ℕ} {r : ℕ} {answer' : List ℕ} → 1342 ≤ length answer → Answered t answer r answer' → (r ≡ length (sheetAnswer t)) × (take r answer' ≡ sheetAnswer t)
+always-fits {t} {answer} {r} {answer'} h a =
+    let f = le-leb (length (sheetAnswer t)) (length answer) (omega (arith, answer-most t)) in
+    let l : r ≡ length (sheetAnswer t) = rw f at (a .says) in
+    let w : answer' ≡ sheetAnswer t ++ drop (length (sheetAnswer t)) answer = rw f at (a .writes) in
+    (l, ap (take r) w ∙ take-at (sheetAnswer t) (drop (length (sheetAnswer t)) answer) r (sym l))
+
+-- the answer ends within the buffer
+pub ends-within : (t answer : List ℕ) (r : ℕ) (answer' : List ℕ) → Answered t answer r answer' → r ≤ length answer
+ends-within t answer r answer' a = go (leb (length (sheetAnswer t)) (length answer)) refl (a .says)
+  where
+    go : (s : Bool) → leb (length (sheetAnswer t)) (length answer) ≡ s → r ≡ pick s (length (sheetAnswer t)) 0 → r ≤ length answer
+    go true e f = omega (arith, leb-true (length (sheetAnswer t)) (length answer) e)
+    go false e f = omega arith
+
+pub stays-within : (t answer : List ℕ) (r : ℕ) (answer' : List ℕ) → Answered t answer r answer' → length answer' ≡ length answer → r ≤ length answer'
+stays-within t answer r answer' a e = omega (arith, ends-within t answer r answer' a)

@@ -1,0 +1,41 @@
+-- `sheet::answer_job` meets its contract: what `thin` leaves, with the sizes and the scratch of a sheet.
+use Rattle.sheet.proofs.Jobs.{job-wrote}
+use borrow.Author.Needs.{needs}
+use Prim.Native.Nat.{_-_}
+use mathlib.Core.Path.{refl}
+use native.Mathlib.Omega.{arith}
+use Rattle.sheet.proofs.answer_job.Statement.{statement}
+use Rattle.sheet.proofs.answer_job.Tie as tie
+
+slice-aggregate-thin : tie.Need-slice-aggregate-thin
+slice-aggregate-thin c = search needs
+
+slice-aggregate-thin-2 : tie.Need-slice-aggregate-thin-2
+slice-aggregate-thin-2 c = search needs
+
+thin-requires : tie.Need-thin-requires
+thin-requires c κs = search needs
+
+put-answer-requires : tie.Need-put-answer-requires
+put-answer-requires c κs = omega (arith, c .before .before .before .before .before .before .before .before .before .before .before .before .before .before .pre .0, c .before .before .before .before .before .before .before .before .before .before .before .before .before .before .pre .4, c .before .before .before .before .before .before .before .before .before .before .before .before .before .before .pre .5, c .before .before .before .before .before .before .thin .kept .1 .1 .1 .1 .1 .0)
+
+same-length : tie.Need-same-length
+same-length c = search needs
+
+same-length-2 : tie.Need-same-length-2
+same-length-2 c = search needs
+
+returns : tie.Need-returns
+returns c = job-wrote _ _ _ (c .before .before .before .before .before .before .before .before .before .before .before .before .before .before .before .before .before .pre .0) (c .before .before .before .before .before .before .before .before .before .before .before .before .before .before .before .before .before .pre .1) (c .before .before .before .before .before .before .before .before .before .before .before .before .before .before .before .before .before .pre .2) (c .before .before .before .before .before .before .before .before .before .before .before .before .before .before .before .before .before .pre .3) (c .before .before .before .before .before .before .before .before .before .before .before .before .before .before .before .before .before .pre .4) refl refl (c .before .before .before .before .before .before .before .before .before .thin .ensures) (c .before .before .put-answer .ensures)
+
+pub answer-job-spec : {M : Type 1} → statement M
+answer-job-spec =
+    tie.close
+    (tie.spec
+    slice-aggregate-thin
+    slice-aggregate-thin-2
+    thin-requires
+    put-answer-requires
+    same-length
+    same-length-2
+    returns)

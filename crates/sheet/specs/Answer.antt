@@ -1,0 +1,58 @@
+-- The text of each answer.
+use Prim.Native.Nat.{ℕ, zero, suc}
+use mathlib.Core.Bool.{_||_}
+use mathlib.Core.List.{List, [], _∷_, _++_}
+use lib.Dec.{eqb}
+use lib.ListN.{length}
+use lib.Ieee.{Float, binary64, toBits}
+use Rattle.seq.specs.Choice.{pick, orElse}
+use Rattle.seq.specs.Sums.{at}
+use Rattle.fields.specs.Bytes.{tab, newline}
+use Rattle.fields.specs.Texts.{bitsText, countText}
+use Rattle.sparsification.specs.declared.Rule.{Rule}
+use Rattle.sparsification.specs.declared.Answer.{Answer}
+use Rattle.sparsification.specs.Faults.{ruleFault, valueFault}
+use Rattle.sparsification.specs.Answers.{refusal, answerOf, returned}
+use Rattle.sheet.specs.Words.{okWord, weightWord, refusedWord, badWord}
+use Rattle.form.specs.Form.{headOf, wrongLine}
+use Rattle.form.specs.Reading.{weightsOf, matrixOf}
+
+-- a word and a number: "refused" with the refusal's, "bad" with the line's
+unfoldable pub noteText : List ℕ → ℕ → List ℕ
+noteText word number = word ++ (countText number ++ (newline ∷ []))
+
+-- the line of weight j
+abbrev pub weightLine : ℕ → Float → List ℕ
+weightLine j w = weightWord ++ (countText j ++ (tab ∷ (bitsText (toBits binary64 w) ++ (newline ∷ []))))
+
+-- the lines of the first k weights
+unfoldable pub weightLines : List Float → ℕ → List ℕ
+weightLines w zero = []
+weightLines w (suc k) = weightLines w k ++ weightLine k (at w k)
+
+-- the first line of an accepted job's answer
+unfoldable pub okLine : Answer → List ℕ
+okLine r = okWord ++ (countText (r .stage) ++ (tab ∷ (countText (r .nonzeros) ++ (tab ∷ (bitsText (toBits binary64 (r .change)) ++ (newline ∷ []))))))
+
+-- the answer of a job and the weights that it returned
+unfoldable pub answerText : Answer → List Float → List ℕ
+answerText r w = pick (eqb (r .number) 0) (okLine r ++ weightLines w (length w)) (noteText refusedWord (r .number))
+
+-- What a sheet's job is refused for: of the numbers, a sheet can reach 1, 2, 5, 7, 8 and 9 before any work is done.
+unfoldable pub sheetFault : Rule → List Float → ℕ → ℕ → List Float → ℕ
+sheetFault rule u m n w = orElse (ruleFault rule) (orElse (pick (eqb m 0 || eqb n 0) 5 0) (valueFault u w))
+
+-- what the job of a matrix, weights, seed and rule answers
+unfoldable pub jobAnswer : Rule → ℕ → List Float → ℕ → ℕ → List Float → Answer
+jobAnswer rule seed u m n w = pick (eqb (sheetFault rule u m n w) 0) (answerOf u n w seed rule) (refusal (sheetFault rule u m n w))
+
+-- the text that answers the job
+abbrev pub jobText : Rule → ℕ → List Float → ℕ → ℕ → List Float → List ℕ
+jobText rule seed u m n w = answerText (jobAnswer rule seed u m n w) (returned u n w seed rule .w)
+
+-- the text that answers a sheet
+unfoldable pub sheetAnswer : List ℕ → List ℕ
+sheetAnswer text =
+    pick (eqb (wrongLine text) 0)
+    (jobText (headOf text .rule) (headOf text .seed) (matrixOf text (headOf text)) (headOf text .m) (headOf text .n) (weightsOf text (headOf text)))
+    (noteText badWord (wrongLine text))

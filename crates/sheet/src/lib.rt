@@ -1,0 +1,102 @@
+// The sheet: from the bytes of a job to the bytes of its answer.
+mod answer;
+
+use crate::answer::put_answer;
+use crate::answer::put_note;
+use fields::copy_bytes;
+use form::Head;
+use form::head_of;
+use form::read_matrix;
+use form::read_weights;
+use form::wrong_line;
+use sparsification::Job;
+use sparsification::Rule;
+use sparsification::thin;
+ghost use mathlib.Core.Path.{_≡_};
+ghost use Prim.Native.Nat.{_*_, _≤_};
+ghost use lib.ListN.{length};
+ghost use Rattle.form.specs.Reading.{weightsOf, matrixOf};
+ghost use Rattle.sheet.specs.Answer.{jobText, sheetAnswer};
+ghost use Rattle.sheet.specs.Steps.{Wrote, Answered};
+
+// Thins, and writes the answer.
+fn answer_job(
+    out: &mut [u8],
+    matrix: &[f64],
+    m: usize,
+    n: usize,
+    weights: &[f64],
+    seed: u64,
+    rule: Rule,
+    output: &mut [f64],
+) -> usize
+    requires { ⌜ (m ≤ 32) × (n ≤ 64) × (length (now matrix) ≡ m * n) × (length (now weights) ≡ m) × (length (now output) ≡ m) × (1342 ≤ length (now out)) ⌝ }
+    ensures { λ r. ⌜ Wrote (jobText rule seed (now (matrix .entry)) m n (now (weights .entry))) (now (out .entry)) r (now (out .exit)) ⌝ }
+{
+    let mut numbers = [0.0f64; 4136];
+    let mut indices = [0u32; 776];
+    let job = Job { seed, rule };
+    let a = thin(
+        matrix,
+        m,
+        n,
+        weights,
+        job,
+        &mut output[..],
+        &mut numbers[..],
+        &mut indices[..],
+    );
+    put_answer(out, a, &output[..])
+}
+
+// Reads the columns of a sheet of the form, and answers its job.
+fn answer_sheet(out: &mut [u8], text: &[u8], head: Head) -> usize
+    requires { ⌜ (head .m ≤ 32) × (head .n ≤ 64) × (head .next ≤ 1000) × (1342 ≤ length (now out)) ⌝ }
+    ensures { λ r. ⌜ Wrote (jobText (head .rule) (head .seed) (matrixOf (now (text .entry)) head) (head .m) (head .n) (weightsOf (now (text .entry)) head)) (now (out .entry)) r (now (out .exit)) ⌝ }
+{
+    let m = head.m;
+    let n = head.n;
+    let rule = head.rule;
+    let size = m * n;
+    let mut matrix = [0.0f64; 2048];
+    let mut weights = [0.0f64; 32];
+    let mut output = [0.0f64; 32];
+    read_matrix(&mut matrix[..size], text, head.next, n);
+    read_weights(&mut weights[..m], text, head.next, n);
+    answer_job(
+        out,
+        &matrix[..size],
+        m,
+        n,
+        &weights[..m],
+        head.seed,
+        rule,
+        &mut output[..m],
+    )
+}
+
+// Writes the answer of a sheet in a buffer that is long enough for any.
+fn answer_text(out: &mut [u8], text: &[u8]) -> usize
+    requires { ⌜ 1342 ≤ length (now out) ⌝ }
+    ensures { λ r. ⌜ Wrote (sheetAnswer (now (text .entry))) (now (out .entry)) r (now (out .exit)) ⌝ }
+{
+    let line = wrong_line(text);
+    if line != 0 {
+        return put_note(out, b"bad\t", line as u64);
+    }
+    answer_sheet(out, text, head_of(text))
+}
+
+// Answers a sheet in a lent buffer, of which 1342 bytes are always enough, and says how long the answer is. Where it does not fit, nothing is
+// written and 0 is said.
+pub fn thin_sheet(text: &[u8], answer: &mut [u8]) -> usize
+    ensures { λ r. ⌜ Answered (now (text .entry)) (now (answer .entry)) r (now (answer .exit)) ⌝ }
+{
+    let mut out = [0u8; 1342];
+    let long = answer_text(&mut out[..], text);
+    if answer.len() < long {
+        return 0;
+    }
+    copy_bytes(&mut answer[..long], &out[..long]);
+    long
+}
