@@ -19,21 +19,17 @@ use Rattle.coloring.specs.declared.search.Found.{Found}
 
 -- ---- one column
 
-module _ (column : ℕ → Float) (j : ℕ) (x ax : List Float) (from : Found) (most : Float)
-    (is : most ≡ maxAbsTo (lessAt column (mul binary64 two (at x j)) ax) (length ax)) where
-  pub left-alone : lt most (mul binary64 (from .best) improvement) ≡ false → Tried column j (searchOf x ax from) (searchOf x ax from)
+module _ (column : ℕ → Float) (j : ℕ) (x ax : List Float) (from : Found) (below : Bool)
+    (is : below ≡ lt (maxAbsTo (lessAt column (mul binary64 two (at x j)) ax) (length ax)) (mul binary64 (from .best) improvement)) where
+  pub left-alone : below ≡ false → Tried column j (searchOf x ax from) (searchOf x ax from)
   unfolding improves
-  left-alone e =
-      let t : lt (maxAbsTo (lessAt column (mul binary64 two (at x j)) ax) (length ax)) (mul binary64 (from .best) improvement) ≡ false = rw is at e in
-      record { is = rw t }
+  left-alone e = record { is = rw (sym is ∙ e) }
 
-  pub turned-over : (ax' : List Float) (best : Float) → lt most (mul binary64 (from .best) improvement) ≡ true
+  pub turned-over : (ax' : List Float) (best : Float) → below ≡ true
       → ax' ≡ tabulate (lessAt column (mul binary64 two (at x j)) ax) (length ax) → best ≡ maxAbsOf ax'
       → Tried column j (searchOf x ax from) (searchOf (set x j (neg (at x j))) ax' (record { best = best; improved = true }))
   unfolding improves flipped
-  turned-over ax' best e f g =
-      let t : lt (maxAbsTo (lessAt column (mul binary64 two (at x j)) ax) (length ax)) (mul binary64 (from .best) improvement) ≡ true = rw is at e in
-      record { is = rw (t, g, f) }
+  turned-over ax' best e f g = record { is = rw (sym is ∙ e, g, f) }
 
 -- ---- a sweep
 

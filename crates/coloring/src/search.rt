@@ -1,6 +1,6 @@
 // Local search: single coordinates are flipped while that lowers the largest magnitude of A x.
-use entries::largest_less;
 use entries::less_column;
+use entries::stays_below;
 use linear::max_abs;
 ghost use mathlib.Core.Path.{_≡_};
 ghost use Prim.Native.Nat.{_<_};
@@ -33,8 +33,7 @@ fn try_flip(
     let e = a + n;
     let s = scale[j];
     let t = 2.0 * x[j];
-    let flipped = largest_less(&ax[..], &u[a..e], s, t);
-    if flipped < from.best * (1.0 - 1e-12) {
+    if stays_below(&ax[..], &u[a..e], s, t, from.best * (1.0 - 1e-12)) {
         less_column(&mut ax[..], &u[a..e], s, t);
         x[j] = -x[j];
         return Found {

@@ -14,8 +14,8 @@ use Rattle.seq.specs.Lists.{tabulate, part, placed}
 use Rattle.seq.specs.Sums.{plusZero}
 use Rattle.seq.proofs.Filling.{length-tab, getD-tab, tab-cong, room}
 use Rattle.seq.proofs.Parts.{part-same, part-below}
-use Rattle.linear.specs.Vectors.{normOf}
-use Rattle.linear.specs.Basis.{stripped, passTo, projected, taken, unit, inserted, dropTolerance}
+use Rattle.linear.specs.Vectors.{dotOf, normOf}
+use Rattle.linear.specs.Basis.{lessAt, stripped, passTo, projected, taken, unit, inserted, dropTolerance}
 use Rattle.linear.specs.Held.{vectorsIn, Inserted}
 
 -- ---- lengths
@@ -119,3 +119,13 @@ pub two-passes : (z : Float) (l count : ℕ) (b v w w' : List Float)
     → w ≡ passTo z (vectorsIn l count b) v count → w' ≡ passTo z (vectorsIn l count b) w count → w' ≡ projected z (vectorsIn l count b) v
 unfolding projected
 two-passes z l count b v w w' e f = rw length-vectors (f ∙ ap (λ (x : List Float). passTo z (vectorsIn l count b) x count) e)
+
+-- ---- a pass
+
+-- one vector more: c is the part of v along it
+pub pass-turn : (l count k : ℕ) (b v₀ v v' : List Float) (c : Float) → k < count → v ≡ passTo plusZero (vectorsIn l count b) v₀ k
+    → c ≡ dotOf plusZero (part (k * l) l b) v → v' ≡ tabulate (lessAt c (part (k * l) l b) v) (length v)
+    → v' ≡ passTo plusZero (vectorsIn l count b) v₀ (k + 1)
+unfolding passTo stripped
+pass-turn l count k b v₀ v v' c h e d f =
+    f ∙ rw (d, e) (sym (rw (add-one k, vector-at l count k b h) refl))

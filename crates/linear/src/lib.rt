@@ -8,30 +8,45 @@ ghost use lib.ListN.{length};
 ghost use Rattle.seq.specs.Lists.{tabulate};
 ghost use Rattle.seq.specs.Sums.{plusZero};
 ghost use Rattle.linear.specs.Vectors.{dotOf, normOf, maxAbsOf};
-ghost use Rattle.linear.specs.Basis.{lessAt, stripped, passTo, projected, overAt};
+ghost use Rattle.linear.specs.Basis.{lessAt, passTo, projected, overAt};
 ghost use Rattle.linear.specs.Held.{vectorsIn, Inserted};
 
-// One pass over the first count vectors, each l long.
+// One pass over the first count vectors, each l long. While v loses its part along one vector, its part along the next is summed.
 fn pass(basis: &[f64], count: usize, l: usize, v: &mut [f64])
     requires { ⌜ (length (now v) ≡ l) × (count * l ≤ length (now basis)) ⌝ }
     ensures { λ _. ⌜ now (v .exit) ≡ passTo plusZero (vectorsIn l count (now (basis .entry))) (now (v .entry)) count ⌝ }
 {
+    if count == 0 {
+        return;
+    }
+    let mut c = dot(&basis[..l], &v[..]);
     let mut k = 0usize;
-    while k < count {
+    while k + 1 < count {
         let a = k * l;
-        let e = a + l;
-        strip(&basis[a..e], v);
+        let m = a + l;
+        let e = m + l;
+        c = less_then_dot(v, c, &basis[a..m], &basis[m..e]);
         k += 1;
     }
+    let a = k * l;
+    let e = a + l;
+    less_scaled(v, c, &basis[a..e]);
 }
 
-// v less its part along q.
-fn strip(q: &[f64], v: &mut [f64])
-    requires { ⌜ length (now v) ≡ length (now q) ⌝ }
-    ensures { λ _. ⌜ now (v .exit) ≡ stripped plusZero (now (q .entry)) (now (v .entry)) ⌝ }
+// v - c q, and what is left of v along r.
+fn less_then_dot(v: &mut [f64], c: f64, q: &[f64], r: &[f64]) -> f64
+    requires { ⌜ (length (now v) ≡ length (now q)) × (length (now r) ≡ length (now q)) ⌝ }
+    ensures { λ s. ⌜ (now (v .exit) ≡ tabulate (lessAt c (now (q .entry)) (now (v .entry))) (length (now (v .entry)))) × (s ≡ dotOf plusZero (now (r .entry)) (tabulate (lessAt c (now (q .entry)) (now (v .entry))) (length (now (v .entry))))) ⌝ }
 {
-    let c = dot(q, &v[..]);
-    less_scaled(v, c, q);
+    let mut along = 0.0;
+    let mut i = 0usize;
+    while i < v.len() {
+        let w = v[i] - c * q[i];
+        v[i] = w;
+        along = along + r[i] * w;
+        i += 1;
+    }
+    along
 }
 
 // v - c q.

@@ -38,24 +38,24 @@ mul-t c = search needs
 slice-read-t : tie.Need-slice-read-t
 slice-read-t c = search needs
 
-mul-largest-less : tie.Need-mul-largest-less
-mul-largest-less c =
+mul-stays-below : tie.Need-mul-stays-below
+mul-stays-below c =
     let start = c .before .before .before .before .before .before .before .before .before in
     omega (arith, start .pre .0 .inside (start .args .j) (start .pre .2))
 
-sub-largest-less : tie.Need-sub-largest-less
-sub-largest-less c = search needs
+sub-stays-below : tie.Need-sub-stays-below
+sub-stays-below c = search needs
 
-part-largest-less-start : tie.Need-part-largest-less-start
-part-largest-less-start c = search needs
+part-stays-below-start : tie.Need-part-stays-below-start
+part-stays-below-start c = search needs
 
-part-largest-less-end : tie.Need-part-largest-less-end
-part-largest-less-end c =
+part-stays-below-end : tie.Need-part-stays-below-end
+part-stays-below-end c =
     let start = c .before .before .before .before .before .before .before .before .before in
     omega (arith, start .pre .0 .inside (start .args .j) (start .pre .2))
 
-largest-less-requires : tie.Need-largest-less-requires
-largest-less-requires c κs = search needs
+stays-below-requires : tie.Need-stays-below-requires
+stays-below-requires c κs = search needs
 
 mul-less-column : tie.Need-mul-less-column
 mul-less-column c =
@@ -100,8 +100,8 @@ same-length-2 c = search needs
 returns : tie.Need-returns
 returns c =
     let a = c .before .before .before .before .before .before .before .before .before .before .before .before .before .before .before .before .before .before .before .before .before .args in
-    turned-over (entryOf (a .u .now) (a .n) (a .cols .now) (a .scale .now) (a .j)) (a .j) (a .x .now) (a .ax .now) (a .from) (c .before .before .before .before .before .before .before .before .before .before .largest-less .result)
-    (simp add-sub-cancel-left at (c .before .before .before .before .before .before .before .before .before .before .largest-less .ensures)) (c .before .before .before .before .before .less-column .last .0) (c .max-abs .result) (c .before .before .before .before .before .before .before .before .if1 .taken)
+    turned-over (entryOf (a .u .now) (a .n) (a .cols .now) (a .scale .now) (a .j)) (a .j) (a .x .now) (a .ax .now) (a .from) (c .before .before .before .before .before .before .before .before .before .stays-below .result)
+    (simp add-sub-cancel-left at (c .before .before .before .before .before .before .before .before .before .stays-below .ensures)) (c .before .before .before .before .before .less-column .last .0) (c .max-abs .result) (c .before .before .before .before .before .before .before .before .if1 .taken)
     (simp add-sub-cancel-left at (c .before .before .before .before .before .less-column .ensures)) (c .max-abs .ensures)
 
 same-length-3 : tie.Need-same-length-3
@@ -110,8 +110,8 @@ same-length-3 c = search needs
 returns-2 : tie.Need-returns-2
 returns-2 c =
     let a = c .before .before .before .before .before .before .before .before .before .before .before .before .before .args in
-    left-alone (entryOf (a .u .now) (a .n) (a .cols .now) (a .scale .now) (a .j)) (a .j) (a .x .now) (a .ax .now) (a .from) (c .before .before .largest-less .result)
-    (simp add-sub-cancel-left at (c .before .before .largest-less .ensures)) (c .if1 .left)
+    left-alone (entryOf (a .u .now) (a .n) (a .cols .now) (a .scale .now) (a .j)) (a .j) (a .x .now) (a .ax .now) (a .from) (c .before .stays-below .result)
+    (simp add-sub-cancel-left at (c .before .stays-below .ensures)) (c .if1 .left)
 
 pub try-flip-spec : {M : Type 1} → statement M
 try-flip-spec =
@@ -126,11 +126,11 @@ try-flip-spec =
     shared-slice-read-s
     mul-t
     slice-read-t
-    mul-largest-less
-    sub-largest-less
-    part-largest-less-start
-    part-largest-less-end
-    largest-less-requires
+    mul-stays-below
+    sub-stays-below
+    part-stays-below-start
+    part-stays-below-end
+    stays-below-requires
     mul-less-column
     sub-less-column
     part-less-column-start
