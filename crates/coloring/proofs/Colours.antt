@@ -19,7 +19,7 @@ use Rattle.seq.proofs.Keeping.{length-keep}
 use Rattle.entries.specs.Rows.{isSet, times}
 use Rattle.direction.specs.Constants.{one, minusOne}
 use Rattle.linear.specs.Vectors.{maxAbsOf}
-use Rattle.coloring.specs.Search.{Search, improves, flipped, sweepTo, sweptOf, searchTo, searched}
+use Rattle.search.specs.Search.{Search, improves, flipped, sweepTo, sweptOf, searchTo, searched}
 use Rattle.coloring.specs.Coloring.{Between, roundedAt, roundedOff, phased, settled, walked, coloringOf}
 use Rattle.coloring.proofs.Places.{off, getD-any, length-putBack, back, back-at, back-other, count-before, none-passes}
 use Rattle.coloring.proofs.Marked.{Colour, negated, rounded, picked, run-keeps, Sound, all-free, phase-keeps}

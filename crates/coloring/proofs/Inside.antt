@@ -19,9 +19,9 @@ use Rattle.seq.proofs.Filling.{length-tab, getD-tab}
 use Rattle.seq.proofs.Keeping.{keep-short, keep-good}
 use Rattle.entries.specs.Rows.{isSet}
 use Rattle.entries.specs.Entries.{entryOf, Chosen}
-use Rattle.walk.specs.Freeze.{Walk}
+use Rattle.freeze.specs.Freeze.{Walk}
 use Rattle.walk.specs.Walk.{begun, phaseOf}
-use Rattle.walk.specs.Held.{axIn, Roomy}
+use Rattle.freeze.specs.Held.{axIn, Roomy}
 use Rattle.coloring.specs.Coloring.{Between, chosen, putBack, roundedAt, roundedOff, phased}
 use Rattle.coloring.specs.Phasing.{Below, wordsAt, between, insideOf, PhasedAt}
 use Rattle.walk.proofs.SameEntries.{begun-same, phase-same}

@@ -4,7 +4,6 @@ pub mod Rounding
 pub mod Marked
 pub mod Phases
 pub mod Walks
-pub mod Flips
 pub mod Colours
 pub mod Inside
 pub mod SameColumns

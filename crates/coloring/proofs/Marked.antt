@@ -24,7 +24,7 @@ use Rattle.entries.specs.Rows.{isSet, times}
 use Rattle.direction.specs.Direction.{drawn, directed, tooShort, uphill, turned}
 use Rattle.direction.specs.Constants.{one, minusOne, freezeLimit}
 use Rattle.direction.specs.Step.{reachTo, moved, movedAt}
-use Rattle.walk.specs.Freeze.{Walk, freezes, frozenAt, freezeTo}
+use Rattle.freeze.specs.Freeze.{Walk, freezes, frozenAt, freezeTo}
 use Rattle.walk.proofs.Ending.{step-sound}
 use Rattle.coloring.proofs.Places.{off, getD-out, count-all}
 use Rattle.walk.specs.Walk.{begun, Stepped, drew, advanced, freeOnes, stepOf, steppedAlong, phaseOf, ended}

@@ -19,7 +19,7 @@ use Rattle.seq.proofs.Filling.{length-tab, getD-tab}
 use Rattle.seq.proofs.Keeping.{length-keep, keep-short}
 use Rattle.seq.proofs.Loops.{enough}
 use Rattle.entries.specs.Rows.{isSet}
-use Rattle.walk.specs.Freeze.{Walk}
+use Rattle.freeze.specs.Freeze.{Walk}
 use Rattle.walk.specs.Walk.{begun, phaseOf, freeOnes}
 use Rattle.coloring.specs.Coloring.{Between, chosen, putBack, roundedOff, phased, settled, walked}
 use Rattle.coloring.proofs.Marked.{unset-out, set-inside, Kept, phase-keeps, phase-total}

@@ -16,7 +16,7 @@ use Rattle.entries.specs.Rows.{isSet, times}
 use Rattle.walk.specs.Walk.{begun}
 use Rattle.direction.specs.Constants.{improvement}
 use Rattle.walk.proofs.SameEntries.{run-cong, phase-same, begun-same, times-same}
-use Rattle.coloring.specs.Search.{Search, flippedAt, improves, flipped, sweepTo, sweptOf, searchTo, searched}
+use Rattle.search.specs.Search.{Search, flippedAt, improves, flipped, sweepTo, sweptOf, searchTo, searched}
 use Rattle.coloring.specs.Coloring.{Between, chosen, phased, settled, walked, coloringOf}
 
 -- ---- the search

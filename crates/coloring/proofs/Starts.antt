@@ -16,7 +16,7 @@ use Rattle.ieee.proofs.Alikes.{alike-refl, le-alike, pick-alike}
 use Rattle.ieee.proofs.Equality.{alike-nonzero}
 use Rattle.entries.specs.Rows.{isSet}
 use Rattle.direction.specs.Constants.{one, minusOne}
-use Rattle.walk.specs.Freeze.{Walk}
+use Rattle.freeze.specs.Freeze.{Walk}
 use Rattle.walk.specs.Walk.{begun, phaseOf, freeOnes}
 use Rattle.walk.proofs.Pairs.{each-length, each-at, each-set, each-tab, each-tabs, pick-both, run-both}
 use Rattle.walk.proofs.Starts.{AlikeList, AlikeWalk, at-alike, same-list, begun-alike, phase-alike}

@@ -16,9 +16,9 @@ use Rattle.seq.proofs.Loops.{turns, stays}
 use Rattle.entries.specs.Rows.{times}
 use Rattle.walk.specs.Walk.{freeOnes}
 use Rattle.coloring.specs.Coloring.{Between, phased, settled, walked, coloringOf}
-use Rattle.coloring.specs.Search.{searched}
+use Rattle.search.specs.Search.{searched}
 use Rattle.coloring.specs.Phasing.{between, Fresh}
-use Rattle.walk.specs.Held.{Roomy}
+use Rattle.freeze.specs.Held.{Roomy}
 use Rattle.coloring.proofs.Phases.{falls}
 
 module _ (z : Float) (a : ℕ → ℕ → Float) (k n : ℕ) where

@@ -13,9 +13,9 @@ use Rattle.seq.specs.Until.{run}
 use Rattle.direction.specs.Constants.{one, minusOne}
 use Rattle.entries.specs.Rows.{isSet}
 use Rattle.entries.specs.Rows.{times}
-use Rattle.walk.specs.Freeze.{Walk}
+use Rattle.freeze.specs.Freeze.{Walk}
 use Rattle.walk.specs.Walk.{begun, phaseOf, freeOnes}
-use Rattle.coloring.specs.Search.{searched}
+use Rattle.search.specs.Search.{searched}
 
 -- what stands between two phases: all k coordinates, which of them are free, A x, and the generator
 pub record Between : Type 0 where

@@ -6,10 +6,10 @@ use lib.ListN.{length, getD}
 use lib.Ieee.{Float}
 use Rattle.seq.specs.Lists.{tabulate, repeated}
 use Rattle.seq.specs.Sums.{plusZero}
-use Rattle.walk.specs.Freeze.{Walk}
+use Rattle.freeze.specs.Freeze.{Walk}
 use Rattle.walk.specs.Walk.{begun, phaseOf}
 use Rattle.coloring.specs.Coloring.{Between, chosen, putBack}
-use Rattle.walk.specs.Held.{axIn}
+use Rattle.freeze.specs.Held.{axIn}
 
 -- every place is below k
 pub record Below (places : List ℕ) (k : ℕ) : Type 0 where

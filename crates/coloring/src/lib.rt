@@ -1,11 +1,9 @@
 // The colouring of chosen and scaled columns: phases of the walk until no coordinate is free, then local search.
-use entries::times_into;
-
 pub mod discrepancy;
-mod search;
 
-use crate::search::local_search;
 use draw::SplitMix64;
+use entries::times_into;
+use search::local_search;
 use seq::clear;
 use seq::fill_words;
 use walk::phase;
@@ -16,11 +14,11 @@ ghost use Rattle.seq.specs.Lists.{tabulate};
 ghost use Rattle.seq.specs.Sums.{plusZero, at};
 ghost use Rattle.seq.specs.Keep.{keep, Pushed};
 ghost use Rattle.entries.specs.Rows.{isSet, times};
-ghost use Rattle.coloring.specs.Search.{searched};
+ghost use Rattle.search.specs.Search.{searched};
 ghost use Rattle.walk.specs.Walk.{freeOnes};
 ghost use Rattle.coloring.specs.Coloring.{chosen, putBack, roundedAt, phased, walked, coloringOf};
 ghost use Rattle.entries.specs.Entries.{entryOf, Chosen};
-ghost use Rattle.walk.specs.Held.{axIn, Roomy};
+ghost use Rattle.freeze.specs.Held.{axIn, Roomy};
 ghost use Rattle.coloring.specs.Phasing.{between, PhasedAt, wordsAt, Below, Fresh};
 
 // The places of the marks that are set, in order, at the front of places; how many.

@@ -19,7 +19,7 @@ use Rattle.entries.specs.Rows.{times}
 use Rattle.direction.specs.Direction.{zeroed, directed, uphill, turned}
 use Rattle.direction.specs.Step.{reachTo, moved, along}
 use Rattle.walk.specs.Walking.{uphillIn, reachIn, Downhill, Advanced}
-use Rattle.walk.proofs.Scratch.{drop-placed}
+use Rattle.freeze.proofs.Scratch.{drop-placed}
 
 -- ---- lengths
 

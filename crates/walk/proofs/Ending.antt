@@ -18,7 +18,7 @@ use Rattle.seq.proofs.Loops.{stays, enough, turns}
 use Rattle.entries.specs.Rows.{isSet, times}
 use Rattle.direction.specs.Direction.{drawn, directed, tooShort, uphill, turned}
 use Rattle.direction.specs.Step.{reachTo}
-use Rattle.walk.specs.Freeze.{Walk, freezes, frozenAt, freezeTo}
+use Rattle.freeze.specs.Freeze.{Walk, freezes, frozenAt, freezeTo}
 use Rattle.walk.specs.Walk.{Stepped, drew, advanced, steppedAlong, stepOf, ended, freeOnes, left, phaseOf}
 
 -- ---- how many pass a test

@@ -1,6 +1,4 @@
 -- The laws of the walk.
-pub mod Scratch
-pub mod Freezing
 pub mod Starting
 pub mod Advancing
 pub mod Stepping

@@ -16,13 +16,13 @@ use Rattle.linear.proofs.Bases.{length-vectors, inserted-most}
 use Rattle.entries.specs.Rows.{times, isSet, rowOf, firstRows}
 use Rattle.direction.specs.Direction.{drawn, directed, tooShort, uphill, turned}
 use Rattle.direction.specs.Step.{reachTo}
-use Rattle.walk.specs.Freeze.{Walk, freezeTo}
+use Rattle.freeze.specs.Freeze.{Walk, freezeTo}
 use Rattle.walk.specs.Walk.{Stepped, drew, advanced, steppedAlong, stepOf, freeOnes, phaseOf, blockTo, begun}
-use Rattle.walk.specs.Held.{axIn, basisIn, held, Roomy}
+use Rattle.freeze.specs.Held.{axIn, basisIn, held, Roomy}
 use Rattle.walk.specs.Walking.{Begun, StepHolds}
 use Rattle.walk.specs.declared.Went.{Went}
-use Rattle.walk.proofs.Scratch.{walk-path}
-use Rattle.walk.proofs.Freezing.{freeze-most, count-most}
+use Rattle.freeze.proofs.Scratch.{walk-path}
+use Rattle.freeze.proofs.Freezing.{freeze-most, count-most}
 use Rattle.walk.proofs.Ending.{ones-most, both, step-sound, phase-full, phase-on, phase-last}
 
 -- a step keeps the basis within l

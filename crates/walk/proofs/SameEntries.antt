@@ -23,7 +23,7 @@ use Rattle.linear.specs.Basis.{inserted}
 use Rattle.entries.specs.Rows.{rowOf, rowNorm, rowNorms, times, comesFirst, firstRows, worstTo}
 use Rattle.direction.specs.Direction.{uphill, turned, drawn, directed, tooShort}
 use Rattle.direction.specs.Step.{reachTo}
-use Rattle.walk.specs.Freeze.{Walk, axis, freezes, blocking, frozenAt, freezeTo}
+use Rattle.freeze.specs.Freeze.{Walk, axis, freezes, blocking, frozenAt, freezeTo}
 use Rattle.walk.specs.Walk.{blockTo, marksTo, begun, Stepped, drew, advanced, steppedAlong, stepOf, ended, left, phaseOf}
 
 -- equal steps give equal loops

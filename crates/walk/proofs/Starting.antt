@@ -17,12 +17,12 @@ use Rattle.seq.proofs.Parts.{length-part, length-placed, part-same, part-below}
 use Rattle.seq.proofs.Sorting.{length-sorted, sorted-all, take-all-of}
 use Rattle.linear.specs.Held.{Inserted}
 use Rattle.entries.specs.Rows.{rowOf, rowNorms, comesFirst, firstRows}
-use Rattle.walk.specs.Freeze.{blocking}
+use Rattle.freeze.specs.Freeze.{blocking}
 use Rattle.walk.specs.Walk.{blockTo, marksTo}
-use Rattle.walk.specs.Held.{axIn, basisIn}
+use Rattle.freeze.specs.Held.{axIn, basisIn}
 use Rattle.walk.specs.Walking.{BlockedFirst, Begun}
-use Rattle.walk.proofs.Scratch.{back-front}
-use Rattle.walk.proofs.Freezing.{offered-basis, offered-most}
+use Rattle.freeze.proofs.Scratch.{back-front}
+use Rattle.freeze.proofs.Freezing.{offered-basis, offered-most}
 
 pub length-marks : (rows : ℕ) (first : List ℕ) (k : ℕ) → length (marksTo rows first k) ≡ rows
 unfolding marksTo

@@ -17,12 +17,12 @@ use Rattle.linear.specs.Held.{vectorsIn}
 use Rattle.entries.specs.Rows.{times}
 use Rattle.direction.specs.Direction.{afterDraws, drawn, directed, tooShort, uphill, turned}
 use Rattle.direction.specs.Step.{reachTo, moved, along}
-use Rattle.walk.specs.Freeze.{Walk, freezeTo}
+use Rattle.freeze.specs.Freeze.{Walk, freezeTo}
 use Rattle.walk.specs.Walk.{stepOf, steppedAlong, advanced}
-use Rattle.walk.specs.Held.{axIn, basisIn, held, Roomy}
+use Rattle.freeze.specs.Held.{axIn, basisIn, held, Roomy}
 use Rattle.walk.specs.Walking.{Advanced, StepHolds}
 use Rattle.walk.specs.declared.Went.{Went}
-use Rattle.walk.proofs.Scratch.{vectors-take, drop-later, walk-path}
+use Rattle.freeze.proofs.Scratch.{vectors-take, drop-later, walk-path}
 use Rattle.walk.proofs.Advancing.{length-directed}
 
 -- the arm of a choice whose test is known

@@ -14,7 +14,7 @@ use Rattle.entries.specs.Rows.{firstRows, isSet}
 use Rattle.direction.specs.Direction.{afterDraws, drawn, directed, tooShort, uphill, turned}
 use Rattle.entries.specs.Rows.{times}
 use Rattle.direction.specs.Step.{reachTo, moved, along}
-use Rattle.walk.specs.Freeze.{Walk, blocking, freezeTo}
+use Rattle.freeze.specs.Freeze.{Walk, blocking, freezeTo}
 
 -- the basis after the first k of some rows were blocked, in order
 unfoldable pub blockTo : Float → (ℕ → ℕ → Float) → ℕ → List ℕ → ℕ → List (List Float)

@@ -13,7 +13,7 @@ use Rattle.direction.specs.Direction.{uphill, turned}
 use Rattle.entries.specs.Rows.{times}
 use Rattle.direction.specs.Step.{reachTo, moved, along}
 use Rattle.walk.specs.Walk.{blockTo, marksTo, Stepped}
-use Rattle.walk.specs.Held.{axIn, agIn, basisIn, held}
+use Rattle.freeze.specs.Held.{axIn, agIn, basisIn, held}
 use Rattle.walk.specs.declared.Went.{Went}
 
 -- some rows were blocked in order

@@ -1,9 +1,4 @@
 // A phase of the walk on its columns: rows are blocked, then steps are made until one ends the phase.
-mod freeze;
-
-use crate::freeze::Frozen;
-use crate::freeze::block_row;
-use crate::freeze::freeze;
 use direction::direct;
 use direction::draw_into;
 use direction::move_free;
@@ -14,6 +9,9 @@ use draw::SplitMix64;
 use entries::norms_into;
 use entries::rows::first_rows;
 use entries::times_into;
+use freeze::Frozen;
+use freeze::block_row;
+use freeze::freeze;
 use ieee::is_finite;
 use linear::dot;
 use seq::clear_words;
@@ -25,7 +23,7 @@ ghost use Rattle.seq.specs.Lists.{repeated};
 ghost use Rattle.seq.specs.Sums.{plusZero};
 ghost use Rattle.walk.specs.Walk.{stepOf, phaseOf, begun};
 ghost use Rattle.entries.specs.Entries.{entryOf, Chosen};
-ghost use Rattle.walk.specs.Held.{axIn, held, Roomy};
+ghost use Rattle.freeze.specs.Held.{axIn, held, Roomy};
 ghost use Rattle.walk.specs.Walking.{BlockedFirst, Begun, Downhill, Advanced, StepHolds};
 
 // Blocks some rows, in order; how many vectors the basis then has. v is room for a row.

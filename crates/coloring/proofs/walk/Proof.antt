@@ -2,7 +2,7 @@
 use Rattle.seq.specs.Sums.{plusZero}
 use Rattle.entries.specs.Entries.{entryOf}
 use Rattle.walk.specs.Walk.{freeOnes}
-use Rattle.walk.specs.Held.{Roomy}
+use Rattle.freeze.specs.Held.{Roomy}
 use Rattle.coloring.specs.Coloring.{walked}
 use Rattle.coloring.specs.Phasing.{between}
 use Rattle.coloring.proofs.Walks.{onward, walk-begun, walk-falls, walk-turn, walk-over, roomy-still}

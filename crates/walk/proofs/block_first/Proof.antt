@@ -1,6 +1,6 @@
 -- `walk::block_first` meets its contract: after k turns the first k rows are blocked.
-use Rattle.walk.proofs.Scratch.{rest-room}
-use Rattle.walk.proofs.Freezing.{chosen-own}
+use Rattle.freeze.proofs.Scratch.{rest-room}
+use Rattle.freeze.proofs.Freezing.{chosen-own}
 use Rattle.entries.specs.Entries.{entryOf}
 use Rattle.walk.proofs.Starting.{Blocking, blocking-start, blocking-turn, blocking-end}
 use borrow.Author.Needs.{needs}

@@ -1,7 +1,7 @@
 -- `walk::phase` meets its contract: `begin` leaves the start of the phase in the scratch, and `steps` goes on from it.
 use Rattle.entries.specs.Entries.{entryOf}
 use lib.Seq.{length-take-le}
-use Rattle.walk.proofs.Scratch.{front-back}
+use Rattle.freeze.proofs.Scratch.{front-back}
 use Rattle.walk.proofs.Phases.{start-room, phase-is}
 use borrow.Author.Needs.{needs}
 use mathlib.Core.Path.{refl, sym}

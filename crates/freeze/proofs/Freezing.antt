@@ -1,0 +1,269 @@
+-- Laws of blocking and freezing: what each leaves in the scratch is what the definitions say, and a basis never has more than l vectors.
+use Prim.Native.Nat.{ℕ, zero, suc, _+_, _-_, _*_, _≤_, _<_}
+use mathlib.Core.Path.{_≡_, refl, sym, ap, ap₂, _∙_}
+use mathlib.Core.Bool.{Bool, true, false, _&&_}
+use mathlib.Core.List.{List}
+use native.Mathlib.Omega.{arith}
+use native.Mathlib.Numerals.{add-one}
+use borrow.Author.Tests.{lt-ltb, le-ltb, eq-eqb, ne-eqb}
+use lib.Dec.{ltb}
+use lib.ListN.{length, getD, take, drop, set, length-set}
+use lib.Seq.{length-take-le}
+use lib.Ieee.{Float, le}
+use Rattle.seq.specs.Choice.{pick}
+use Rattle.seq.specs.Lists.{part, placed}
+use Rattle.seq.specs.Sums.{plusZero, at}
+use Rattle.seq.proofs.Parts.{length-part, length-placed}
+use Rattle.ieee.specs.Magnitude.{absOf, signumOf}
+use Rattle.linear.specs.Basis.{inserted}
+use Rattle.linear.specs.Held.{vectorsIn, Inserted}
+use Rattle.linear.proofs.Bases.{inserted-most, length-vectors}
+use Rattle.entries.specs.Entries.{Chosen}
+use Rattle.entries.specs.Rows.{rowOf, worstTo}
+use Rattle.direction.specs.Constants.{freezeLimit}
+use Rattle.freeze.specs.Freeze.{Walk, axis, freezes, blocking, frozenAt, freezeTo}
+use Rattle.freeze.specs.Held.{axIn, basisIn, held, Roomy, worstIn, roomFor, Blocked}
+use Rattle.freeze.proofs.Scratch.{rest-is, back-rest, back-front, walk-path}
+
+-- columns that are chosen for some rows are chosen for n
+pub chosen-own : {u : List Float} {n : ℕ} {cols : List ℕ} {scale : List Float} {rows : ℕ} → Chosen u n cols scale rows → Chosen u n cols scale n
+chosen-own c =
+    record { low = omega arith; high = omega arith; short = omega arith; few = c .few; paired = c .paired; inside = c .inside }
+
+-- ---- one insertion into the basis that the scratch holds
+
+module _ (l count r base : ℕ) (num v ys : List Float) (within : base ≤ length num) (i : Inserted plusZero count l (part base (length num - base) num) v r ys) where
+  pub offered-count : r ≡ length (inserted plusZero l (vectorsIn l count (drop base num)) v)
+  offered-count = i .counts ∙ ap (λ (b : List Float). length (inserted plusZero l (vectorsIn l count b) v)) (rest-is base num)
+
+  pub offered-basis : vectorsIn l r (drop base (placed base (length num - base) num ys)) ≡ inserted plusZero l (vectorsIn l count (drop base num)) v
+  offered-basis =
+      ap (vectorsIn l r) (back-rest base num ys within) ∙ i .holds
+      ∙ ap (λ (b : List Float). inserted plusZero l (vectorsIn l count b) v) (rest-is base num)
+
+  pub offered-most : count ≤ l → r ≤ l
+  offered-most h = omega (arith, offered-count, inserted-most plusZero l (vectorsIn l count (drop base num)) v (omega (arith, length-vectors l count (drop base num))))
+
+-- ---- the worst row is blocked, where there is room
+
+module _ (a : ℕ → ℕ → Float) (l : ℕ) (num : List Float) (blocked : List ℕ) (count i : ℕ) where
+  abbrev rows : ℕ
+  rows = length blocked
+
+  abbrev base : ℕ
+  base = rows + rows + rows
+
+  -- the row that `worst` finds in the first rows of the scratch
+  pub worst-is : rows ≤ length num
+      → i ≡ worstTo (take rows num) blocked (length (take rows num)) (length (take rows num)) → i ≡ worstIn num blocked
+  worst-is h e = e ∙ ap (λ k. worstTo (take rows num) blocked k k) (length-take-le rows num h)
+
+  no-room : roomFor num blocked l count ≡ false → Blocked a l num blocked count count num blocked
+  no-room e = record { ax = refl; marks = rw e; basis = rw e }
+
+  pub all-blocked : i ≡ worstIn num blocked → rows ≤ i → Blocked a l num blocked count count num blocked
+  all-blocked e h = no-room (rw (← e, le-ltb i rows h))
+
+  and-no : (t s : Bool) → s ≡ false → (t && s) ≡ false
+  and-no true s e = e
+  and-no false s e = refl
+
+  pub basis-full : l ≤ count → Blocked a l num blocked count count num blocked
+  basis-full h = no-room (and-no (ltb (worstIn num blocked) rows) (ltb count l) (le-ltb count l h))
+
+  pub blocks : (r : ℕ) (ys : List Float) → i ≡ worstIn num blocked → i < rows → count < l → base ≤ length num
+      → Inserted plusZero count l (part base (length num - base) num) (rowOf a l i) r ys
+      → Blocked a l num blocked count r (placed base (length num - base) num ys) (set blocked i 1)
+  blocks r ys e h g within o =
+      let room : roomFor num blocked l count ≡ true = rw (← e, lt-ltb i rows h, lt-ltb count l g) in
+      record {
+        ax = back-front base num ys within rows (omega arith);
+        marks = rw (room, ← e);
+        basis = offered-basis l count r base num (rowOf a l i) ys within o ∙ rw (room, ← e);
+      }
+
+-- ---- a coordinate is frozen
+
+module _ (a : ℕ → ℕ → Float) (l : ℕ) (num : List Float) (blocked : List ℕ) (x : List Float) (free : List ℕ) (count p c r : ℕ) (s : Float)
+    (ys num' : List Float) (blocked' : List ℕ) (room : Roomy l num blocked x free count) where
+  -- of n rows
+  abbrev n : ℕ
+  n = length blocked
+
+  abbrev lent : ℕ
+  lent = n + n + n
+
+  abbrev num1 : List Float
+  num1 = placed lent (length num - lent) num ys
+
+  -- the basis with the axis
+  abbrev grown : List (List Float)
+  grown = inserted plusZero l (basisIn n (length x) count num) (axis l p)
+
+  -- what is asked before the worst row is blocked
+  pub room-after : (v : List Float) → length ys ≡ length (part lent (length num - lent) num)
+      → Inserted plusZero count l (part lent (length num - lent) num) v c ys → (n + n + n + l * l ≤ length num1) × (c ≤ l)
+  room-after v ly o =
+      let within : lent ≤ length num = omega (arith, room .room) in
+      let long : length ys ≡ length num - lent = ly ∙ length-part lent (length num - lent) num (omega arith) in (
+        omega (arith, length-placed lent (length num - lent) num ys (omega arith) long, room .room),
+        offered-most l count c lent num v ys within o (room .most),
+      )
+
+  pub freezes-at : (v : List Float) → v ≡ axis l p → s ≡ signumOf (at x p)
+      → Inserted plusZero count l (part lent (length num - lent) num) v c ys
+      → Blocked a l num1 blocked c r num' blocked' → length blocked' ≡ n
+      → (frozen rng : ℕ) → held num' blocked' (set x p s) (set free p 0) r (frozen + 1) rng ≡ frozenAt plusZero a l n (held num blocked x free count frozen rng) p
+  unfolding frozenAt
+  freezes-at v ev es given b lb frozen rng =
+      let o : Inserted plusZero count l (part lent (length num - lent) num) (axis l p) c ys = rw ev at given in
+      let within : lent ≤ length num = omega (arith, room .room) in
+      let ax1 : axIn n num1 ≡ axIn n num = back-front lent num ys within n (omega arith) in
+      let wide : inserted plusZero l (vectorsIn l count (drop lent num)) (axis l p) ≡ grown =
+      ap (λ (k : ℕ). inserted plusZero l (vectorsIn k count (drop lent num)) (axis l p)) (sym (room .wide)) in
+      let ec : c ≡ length grown = offered-count l count c lent num (axis l p) ys within o ∙ ap length wide in
+      let eb : basisIn n l c num1 ≡ grown = offered-basis l count c lent num (axis l p) ys within o ∙ wide in
+      walk-path (ap (set x p) es) refl refl
+      (ap (λ (k : ℕ). axIn k num') lb ∙ b .ax ∙ ax1)
+      (b .marks
+      ∙ ap₂ (λ (ax : List Float) (k : ℕ). pick (ltb (worstTo ax blocked n n) n && ltb k l) (set blocked (worstTo ax blocked n n) 1) blocked) ax1 ec)
+      (ap₂ (λ (k m : ℕ). basisIn k m r num') lb (length-set x p s ∙ room .wide)
+      ∙ b .basis
+      ∙ ap₂ (λ (ax : List Float) (k : ℕ). pick (ltb (worstTo ax blocked n n) n && ltb k l) (blocking plusZero a l (worstTo ax blocked n n) (basisIn n l c num1)) (basisIn n l c num1)) ax1 ec
+      ∙ ap (λ (q : List (List Float)). pick (ltb (worstTo (axIn n num) blocked n n) n && ltb (length grown) l) (blocking plusZero a l (worstTo (axIn n num) blocked n n) q) q) eb)
+      refl
+
+-- ---- a basis never has more than l vectors
+
+module _ (z : Float) (a : ℕ → ℕ → Float) (l n : ℕ) where
+  pub frozen-most : (w : Walk) (p : ℕ) → length (w .basis) ≤ l → length (frozenAt z a l n w p .basis) ≤ l
+  unfolding frozenAt
+  frozen-most w p h = go (ltb (worstTo (w .ax) (w .blocked) n n) n && ltb (length b) l) (inserted-most z l (w .basis) (axis l p) h)
+    where
+      b : List (List Float)
+      b = inserted z l (w .basis) (axis l p)
+
+      go : (t : Bool) → length b ≤ l → length (pick t (blocking z a l (worstTo (w .ax) (w .blocked) n n) b) b) ≤ l
+      go true k = inserted-most z l b (rowOf a l (worstTo (w .ax) (w .blocked) n n)) k
+      go false k = k
+
+  pub freeze-most : (w : Walk) (k : ℕ) → length (w .basis) ≤ l → length (freezeTo z a l n w k .basis) ≤ l
+  unfolding freezeTo
+  freeze-most w zero h = h
+  freeze-most w (suc k) h = go (freezes (freezeTo z a l n w k) k) (freeze-most w k h)
+    where
+      go : (t : Bool) → length (freezeTo z a l n w k .basis) ≤ l
+          → length (pick t (frozenAt z a l n (freezeTo z a l n w k) k) (freezeTo z a l n w k) .basis) ≤ l
+      go true e = frozen-most (freezeTo z a l n w k) k e
+      go false e = e
+
+  -- the turns of the loop over the coordinates
+  pub freeze-one : (w v w' : Walk) (k : ℕ) → v ≡ freezeTo z a l n w k → freezes v k ≡ true → w' ≡ frozenAt z a l n v k → w' ≡ freezeTo z a l n w (k + 1)
+  unfolding freezeTo
+  freeze-one w v w' k e f g = g ∙ rw (add-one k, ← e, f)
+
+  pub freeze-none : (w v : Walk) (k : ℕ) → v ≡ freezeTo z a l n w k → freezes v k ≡ false → v ≡ freezeTo z a l n w (k + 1)
+  unfolding freezeTo
+  freeze-none w v k e f = rw (add-one k, ← e, f)
+
+  pub freeze-zero : (w : Walk) → w ≡ freezeTo z a l n w 0
+  unfolding freezeTo
+  freeze-zero w = refl
+
+-- the number of vectors in the scratch is at most l where the walk that it holds has at most l
+pub count-most : (l r : ℕ) (num : List Float) (blocked : List ℕ) (x : List Float) (free : List ℕ) (frozen rng : ℕ) (w : Walk)
+    → held num blocked x free r frozen rng ≡ w → length (w .basis) ≤ l → r ≤ l
+count-most l r num blocked x free frozen rng w e h =
+    let b : length (basisIn (length blocked) (length x) r num) ≡ length (w .basis) = ap (λ (v : Walk). length (v .basis)) e in
+    omega (arith, length-vectors (length x) r (drop (length blocked + length blocked + length blocked) num))
+
+-- ---- the loop that freezes
+
+-- what holds after the coordinates below p were looked at
+pub record Freezing (a : ℕ → ℕ → Float) (l : ℕ) (num₀ : List Float) (blocked₀ : List ℕ) (x₀ : List Float) (free₀ : List ℕ) (v₀ : List Float) (count₀ frozen₀ : ℕ)
+    (num : List Float) (blocked : List ℕ) (x : List Float) (free : List ℕ) (v : List Float) (count frozen p : ℕ) : Type 0 where
+  pub upto : p ≤ l
+  pub roomy : Roomy l num blocked x free count
+  pub nums : length num ≡ length num₀
+  pub rows : length blocked ≡ length blocked₀
+  pub xs : length x ≡ length x₀
+  pub frees : length free ≡ length free₀
+  pub vs : length v ≡ length v₀
+  pub few : frozen ≤ frozen₀ + p
+  pub fits : length (held num₀ blocked₀ x₀ free₀ count₀ frozen₀ 0 .basis) ≤ l
+  pub holds : (rng : ℕ) → held num blocked x free count frozen rng ≡ freezeTo plusZero a l (length blocked₀) (held num₀ blocked₀ x₀ free₀ count₀ frozen₀ rng) p
+
+module _ (a : ℕ → ℕ → Float) (l : ℕ) (num₀ : List Float) (blocked₀ : List ℕ) (x₀ : List Float) (free₀ : List ℕ) (v₀ : List Float) (count₀ frozen₀ : ℕ) where
+  pub freezing-start : Roomy l num₀ blocked₀ x₀ free₀ count₀ → Freezing a l num₀ blocked₀ x₀ free₀ v₀ count₀ frozen₀ num₀ blocked₀ x₀ free₀ v₀ count₀ frozen₀ 0
+  freezing-start r =
+      record {
+        upto = omega arith;
+        roomy = r;
+        nums = refl;
+        rows = refl;
+        xs = refl;
+        frees = refl;
+        vs = refl;
+        few = omega arith;
+        fits = omega (arith, length-vectors (length x₀) count₀ (drop (length blocked₀ + length blocked₀ + length blocked₀) num₀), r .most);
+        holds = λ rng. freeze-zero plusZero a l (length blocked₀) (held num₀ blocked₀ x₀ free₀ count₀ frozen₀ rng);
+      }
+
+  module _ (num : List Float) (blocked : List ℕ) (x : List Float) (free : List ℕ) (v : List Float) (count frozen p : ℕ)
+      (i : Freezing a l num₀ blocked₀ x₀ free₀ v₀ count₀ frozen₀ num blocked x free v count frozen p) (more : p < l) where
+    pub freezing-none : freezes (held num blocked x free count frozen 0) p ≡ false
+        → Freezing a l num₀ blocked₀ x₀ free₀ v₀ count₀ frozen₀ num blocked x free v count frozen (p + 1)
+    freezing-none f =
+        record {
+          upto = omega arith;
+          roomy = i .roomy;
+          nums = i .nums;
+          rows = i .rows;
+          xs = i .xs;
+          frees = i .frees;
+          vs = i .vs;
+          few = omega (arith, i .few);
+          fits = i .fits;
+          holds = λ rng. freeze-none plusZero a l (length blocked₀) (held num₀ blocked₀ x₀ free₀ count₀ frozen₀ rng) (held num blocked x free count frozen rng) p (i .holds rng) f;
+        }
+
+    pub freezing-one : (num' : List Float) (blocked' : List ℕ) (x' : List Float) (free' : List ℕ) (v' : List Float) (r : ℕ)
+        → freezes (held num blocked x free count frozen 0) p ≡ true
+        → length num' ≡ length num → length blocked' ≡ length blocked → length x' ≡ length x → length free' ≡ length free → length v' ≡ length v
+        → ((frozen rng : ℕ) → held num' blocked' x' free' r (frozen + 1) rng ≡ frozenAt plusZero a l (length blocked) (held num blocked x free count frozen rng) p)
+        → Freezing a l num₀ blocked₀ x₀ free₀ v₀ count₀ frozen₀ num' blocked' x' free' v' r (frozen + 1) (p + 1)
+    freezing-one num' blocked' x' free' v' r f ln lb lx lf lv h =
+        let n : ℕ = length blocked₀ in
+        let w : ℕ → Walk = λ rng. held num₀ blocked₀ x₀ free₀ count₀ frozen₀ rng in
+        let step : (rng : ℕ) → held num' blocked' x' free' r (frozen + 1) rng ≡ freezeTo plusZero a l n (w rng) (p + 1) =
+        λ rng. freeze-one plusZero a l n (w rng) (held num blocked x free count frozen rng) (held num' blocked' x' free' r (frozen + 1) rng) p (i .holds rng) f
+        (h frozen rng ∙ ap (λ (k : ℕ). frozenAt plusZero a l k (held num blocked x free count frozen rng) p) (i .rows)) in
+        let q : Roomy l num blocked x free count = i .roomy in
+        record {
+          upto = omega arith;
+          roomy = record {
+            room = omega (arith, ln, lb, q .room, rw (← lb) at (q .room));
+            wide = lx ∙ q .wide;
+            marks = lf ∙ q .marks;
+            most = count-most l r num' blocked' x' free' (frozen + 1) 0 (freezeTo plusZero a l n (w 0) (p + 1)) (step 0) (freeze-most plusZero a l n (w 0) (p + 1) (i .fits));
+          };
+          nums = ln ∙ i .nums;
+          rows = lb ∙ i .rows;
+          xs = lx ∙ i .xs;
+          frees = lf ∙ i .frees;
+          vs = lv ∙ i .vs;
+          few = omega (arith, i .few);
+          fits = i .fits;
+          holds = step;
+        }
+
+-- the test of the loop, on the free marks and the coordinates of any walk
+module _ (num : List Float) (blocked : List ℕ) (x : List Float) (free : List ℕ) (count frozen p : ℕ) where
+  pub freezes-near : (d : Float) → getD free p 0 ≡ 1 → d ≡ absOf (at x p) → le freezeLimit d ≡ true → freezes (held num blocked x free count frozen 0) p ≡ true
+  freezes-near d h e k = rw (eq-eqb (getD free p 0) 1 h, ← e, k)
+
+  pub freezes-far : (d : Float) → getD free p 0 ≡ 1 → d ≡ absOf (at x p) → le freezeLimit d ≡ false → freezes (held num blocked x free count frozen 0) p ≡ false
+  freezes-far d h e k = rw (eq-eqb (getD free p 0) 1 h, ← e, k)
+
+  pub freezes-not : (getD free p 0 ≡ 1 → ⊥) → freezes (held num blocked x free count frozen 0) p ≡ false
+  freezes-not h = rw (ne-eqb (getD free p 0) 1 h)

@@ -1,0 +1,3 @@
+-- The laws of freezing.
+pub mod Scratch
+pub mod Freezing

@@ -1,0 +1,144 @@
+// How coordinates freeze, and how rows are blocked.
+use entries::row_into;
+use entries::rows::worst;
+use ieee::abs;
+use ieee::signum;
+use linear::insert;
+use seq::clear;
+ghost use mathlib.Core.Path.{_≡_};
+ghost use Prim.Native.Nat.{ℕ, _≤_, _<_, _*_, _+_};
+ghost use lib.ListN.{length};
+ghost use Rattle.seq.specs.Sums.{plusZero};
+ghost use Rattle.linear.specs.Held.{vectorsIn, Inserted};
+ghost use Rattle.entries.specs.Rows.{rowOf};
+ghost use Rattle.freeze.specs.Freeze.{axis, frozenAt, freezeTo};
+ghost use Rattle.entries.specs.Entries.{entryOf, Chosen};
+ghost use Rattle.freeze.specs.Held.{axIn, held, Roomy, Blocked};
+
+// The vector with 1.0 at p.
+fn axis_into(v: &mut [f64], p: usize)
+    requires { ⌜ p < length (now v) ⌝ }
+    ensures { λ _. ⌜ now (v .exit) ≡ axis (length (now (v .entry))) p ⌝ }
+{
+    clear(&mut v[..]);
+    v[p] = 1.0;
+}
+
+// Offers row i to the basis; the new count. v is room for the row.
+pub fn block_row(
+    basis: &mut [f64],
+    count: usize,
+    i: usize,
+    u: &[f64],
+    n: usize,
+    cols: &[u32],
+    scale: &[f64],
+    v: &mut [f64],
+) -> usize
+    requires { ⌜ Chosen (now u) n (now cols) (now scale) n × (length (now v) ≡ length (now cols)) × (length (now cols) * length (now cols) ≤ length (now basis)) × (count ≤ length (now cols)) ⌝ }
+    ensures { λ r. ⌜ Inserted plusZero count (length (now (cols .entry))) (now (basis .entry)) (rowOf (entryOf (now (u .entry)) n (now (cols .entry)) (now (scale .entry))) (length (now (cols .entry))) i) r (now (basis .exit)) ⌝ }
+{
+    row_into(&mut v[..], u, n, cols, scale, i);
+    insert(basis, count, cols.len(), v)
+}
+
+// Blocks the worst row that is not blocked, where there is one and the basis is short of a vector for each column; the new count.
+fn block_worst(
+    num: &mut [f64],
+    count: usize,
+    blocked: &mut [u32],
+    u: &[f64],
+    n: usize,
+    cols: &[u32],
+    scale: &[f64],
+    v: &mut [f64],
+) -> usize
+    requires { ⌜ Chosen (now u) n (now cols) (now scale) (length (now blocked)) × (length (now v) ≡ length (now cols)) × (length (now blocked) + length (now blocked) + length (now blocked) + length (now cols) * length (now cols) ≤ length (now num)) × (count ≤ length (now cols)) ⌝ }
+    ensures { λ r. ⌜ Blocked (entryOf (now (u .entry)) n (now (cols .entry)) (now (scale .entry))) (length (now (cols .entry))) (now (num .entry)) (now (blocked .entry)) count r (now (num .exit)) (now (blocked .exit)) ⌝ }
+{
+    let rows = blocked.len();
+    let i = worst(&num[..rows], &blocked[..]);
+    if i >= rows {
+        return count;
+    }
+    if count >= cols.len() {
+        return count;
+    }
+    blocked[i] = 1;
+    let base = rows + rows + rows;
+    block_row(&mut num[base..], count, i, u, n, cols, scale, v)
+}
+
+// Freezes coordinate p; the new count.
+fn freeze_at(
+    num: &mut [f64],
+    count: usize,
+    blocked: &mut [u32],
+    x: &mut [f64],
+    free: &mut [u32],
+    p: usize,
+    u: &[f64],
+    n: usize,
+    cols: &[u32],
+    scale: &[f64],
+    v: &mut [f64],
+) -> usize
+    requires { ⌜ Chosen (now u) n (now cols) (now scale) (length (now blocked)) × Roomy (length (now cols)) (now num) (now blocked) (now x) (now free) count × (length (now v) ≡ length (now cols)) × (p < length (now cols)) ⌝ }
+    ensures { λ r. ⌜ ((frozen rng : ℕ) → held (now (num .exit)) (now (blocked .exit)) (now (x .exit)) (now (free .exit)) r (frozen + 1) rng ≡ frozenAt plusZero (entryOf (now (u .entry)) n (now (cols .entry)) (now (scale .entry))) (length (now (cols .entry))) (length (now (blocked .entry))) (held (now (num .entry)) (now (blocked .entry)) (now (x .entry)) (now (free .entry)) count frozen rng) p) ⌝ }
+{
+    x[p] = signum(x[p]);
+    free[p] = 0;
+    axis_into(&mut v[..], p);
+    let base = blocked.len() + blocked.len() + blocked.len();
+    let c = insert(&mut num[base..], count, cols.len(), &mut v[..]);
+    block_worst(num, c, blocked, u, n, cols, scale, v)
+}
+
+// How many vectors the basis has, and how many coordinates froze in this phase.
+pub struct Frozen {
+    pub count: usize,
+    pub frozen: usize,
+}
+
+// Freezes each free coordinate that is near enough to 1 or -1, in order.
+pub fn freeze(
+    num: &mut [f64],
+    from: Frozen,
+    blocked: &mut [u32],
+    x: &mut [f64],
+    free: &mut [u32],
+    u: &[f64],
+    n: usize,
+    cols: &[u32],
+    scale: &[f64],
+    v: &mut [f64],
+) -> Frozen
+    requires { ⌜ Chosen (now u) n (now cols) (now scale) (length (now blocked)) × Roomy (length (now cols)) (now num) (now blocked) (now x) (now free) (from .count) × (length (now v) ≡ length (now cols)) × (from .frozen ≤ 256) ⌝ }
+    ensures { λ r. ⌜ ((rng : ℕ) → held (now (num .exit)) (now (blocked .exit)) (now (x .exit)) (now (free .exit)) (r .count) (r .frozen) rng ≡ freezeTo plusZero (entryOf (now (u .entry)) n (now (cols .entry)) (now (scale .entry))) (length (now (cols .entry))) (length (now (blocked .entry))) (held (now (num .entry)) (now (blocked .entry)) (now (x .entry)) (now (free .entry)) (from .count) (from .frozen) rng) (length (now (cols .entry)))) ⌝ }
+{
+    let mut count = from.count;
+    let mut frozen = from.frozen;
+    let mut p = 0usize;
+    while p < cols.len() {
+        if free[p] == 1 {
+            if abs(x[p]) >= 1.0 - 1e-9 {
+                count = freeze_at(
+                    num,
+                    count,
+                    blocked,
+                    x,
+                    free,
+                    p,
+                    u,
+                    n,
+                    cols,
+                    scale,
+                    &mut v[..],
+                );
+                frozen += 1;
+            }
+        }
+        p += 1;
+    }
+    Frozen { count, frozen }
+}

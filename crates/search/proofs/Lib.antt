@@ -1,0 +1,2 @@
+-- The laws of local search.
+pub mod Flips
