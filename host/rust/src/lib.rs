@@ -57,3 +57,8 @@ pub use lent::{MAX_COLUMNS, MAX_ROWS};
 pub use margins::{max_margin_change, turned_words};
 pub use refusal::Refusal;
 pub use thinning::{sparsify, sparsify_within, thin, Job, Rule, Thinned};
+
+/// The example of the repository's README, built and run as a test.
+#[cfg(doctest)]
+#[doc = include_str!("../../../README.md")]
+struct Readme;
