@@ -26,6 +26,7 @@ use Rattle.form.specs.declared.Head.{Head}
 use Rattle.form.specs.Form.{headOf, wrongLine}
 use Rattle.form.specs.Reading.{doubleAt, weightPlace, weightsOf, matrixOf}
 use Rattle.form.proofs.Lines.{right}
+use Rattle.form.proofs.LongText.{long-text-is-wrong, first-bytes-same-line}
 use Rattle.form.proofs.Verdicts.{Sized, sized}
 use Rattle.fields.specs.Bytes.{newline}
 use Rattle.fields.specs.Texts.{countText}
@@ -147,3 +148,15 @@ ends-within t answer r answer' a = go (leb (length (sheetAnswer t)) (length answ
 
 pub stays-within : (t answer : List ℕ) (r : ℕ) (answer' : List ℕ) → Answered t answer r answer' → length answer' ≡ length answer → r ≤ length answer'
 stays-within t answer r answer' a e = omega (arith, ends-within t answer r answer' a)
+
+-- a text with a wrong line
+bad-text : (t : List ℕ) → 0 < wrongLine t → sheetAnswer t ≡ noteText badWord (wrongLine t)
+unfolding sheetAnswer
+bad-text t h = rw (ne-eqb (wrongLine t) 0 (λ e. omega arith))
+
+-- A text that is longer than a buffer of k bytes is answered as its first k bytes are, so that the program `thin` answers any text as a whole.
+pub first-bytes-same-answer : (text : List ℕ) (k : ℕ) → 40000 < k → k ≤ length text → sheetAnswer (take k text) ≡ sheetAnswer text
+first-bytes-same-answer text k h g =
+    let e = first-bytes-same-line text k h g in
+    let w : 0 < wrongLine text = long-text-is-wrong text (omega arith) in
+    bad-text (take k text) (omega (arith, e)) ∙ ap (noteText badWord) e ∙ sym (bad-text text w)
