@@ -28,7 +28,9 @@ cast-j c = omega (arith, c .shared-slice-known .given (c .before .before .loop .
 
 mul-to : tie.Need-mul-to Inv-loop μ-loop
 mul-to c =
-    let b : getD (c .before .before .before .args .places .now) (c .before .before .loop .p) 0 < length (c .before .before .before .args .v .now) = c .before .before .before .pre .1 .below (c .before .before .loop .p) (c .before .loop-test .taken) in
+    let c2 = c .before .before in
+    let c3 = c2 .before in
+    let b : getD (c3 .args .places .now) (c2 .loop .p) 0 < length (c3 .args .v .now) = c3 .pre .1 .below (c2 .loop .p) (c .before .loop-test .taken) in
     search needs
 
 shared-slice-read-to : tie.Need-shared-slice-read-to Inv-loop μ-loop

@@ -26,14 +26,18 @@ slice-aggregate-phase-at c = sym (length-take-le _ _ (omega arith))
 
 phase-at-requires : tie.Need-phase-at-requires
 phase-at-requires c κs =
-    let start = c .before .before .before .before .before .before .before .before .before .before .before .before .before .before .before .before in
-    let b = places-below (start .args .free .now) _ (length (start .args .cols .now)) (c .before .before .before .before .before .before .free-places .result) (start .pre .1 .marks) (c .before .before .before .before .before .before .free-places .ensures) in
+    let c6 = c .before .before .before .before .before .before in
+    let c16 = c6 .before .before .before .before .before .before .before .before .before .before in
+    let start = c16 in
+    let b = places-below (start .args .free .now) _ (length (start .args .cols .now)) (c6 .free-places .result) (start .pre .1 .marks) (c6 .free-places .ensures) in
     (start .pre .0, start .pre .1, b .0, b .1)
 
 round-free-requires : tie.Need-round-free-requires
 round-free-requires c κs =
-    let start = c .before .before .before .before .before .before .before .before .before .before .before .before .before .before .before .before .before .before .before .before .before .before .before .before .before .before .before .before .before in
-    c .before .before .before .before .before .before .before .before .before .before .before .before .phase-at .kept .1 .1 .1 .0 ∙ start .pre .1 .marks ∙ sym (c .before .before .before .before .before .before .before .before .before .before .before .before .phase-at .kept .1 .1 .0 ∙ start .pre .1 .wide)
+    let c12 = c .before .before .before .before .before .before .before .before .before .before .before .before in
+    let c29 = c12 .before .before .before .before .before .before .before .before .before .before .before .before .before .before .before .before .before in
+    let start = c29 in
+    c12 .phase-at .kept .1 .1 .1 .0 ∙ start .pre .1 .marks ∙ sym (c12 .phase-at .kept .1 .1 .0 ∙ start .pre .1 .wide)
 
 fill-words-requires : tie.Need-fill-words-requires
 fill-words-requires c κs = search needs
@@ -56,14 +60,17 @@ same-length-4 c =
 
 returns : tie.Need-returns
 returns c =
-    let start = c .before .before .before .before .before .before .before .before .before .before .before .before .before .before .before .before .before .before .before .before .before .before .before .before .before .before .before .before in
+    let c11 = c .before .before .before .before .before .before .before .before .before .before .before in
+    let c18 = c11 .before .before .before .before .before .before .before in
+    let c28 = c18 .before .before .before .before .before .before .before .before .before .before in
+    let start = c28 in
     let a = start .args in
     let m = entryOf (a .u .now) (a .n) (a .cols .now) (a .scale .now) in
     let k = length (a .cols .now) in
-    let is = c .before .before .before .before .before .before .before .before .before .before .before .before .before .before .before .before .before .before .free-places .ensures .front ∙ ap (keep (isSet (a .free .now))) (start .pre .1 .marks) in
+    let is = c18 .free-places .ensures .front ∙ ap (keep (isSet (a .free .now))) (start .pre .1 .marks) in
     ⊎-elim
-    (λ w. phase-rounds m k (length (a .blocked .now)) (a .rng .state) (a .num .now) (a .x .now) (a .free .now) _ _ _ _ _ _ is (c .before .before .before .before .before .before .before .before .before .before .before .phase-at .ensures) (c .before .if1 .x) (c .before .if1 .free) (w .0 .taken) (w .10 ∙ w .3 .ensures) (w .11 ∙ w .7 .ensures))
-    (λ w. rw (w .1, w .2) (phase-goes m k (length (a .blocked .now)) (a .rng .state) (a .num .now) (a .x .now) (a .free .now) _ _ _ _ _ _ is (c .before .before .before .before .before .before .before .before .before .before .before .phase-at .ensures) (w .0 .left)))
+    (λ w. phase-rounds m k (length (a .blocked .now)) (a .rng .state) (a .num .now) (a .x .now) (a .free .now) _ _ _ _ _ _ is (c11 .phase-at .ensures) (c .before .if1 .x) (c .before .if1 .free) (w .0 .taken) (w .10 ∙ w .3 .ensures) (w .11 ∙ w .7 .ensures))
+    (λ w. rw (w .1, w .2) (phase-goes m k (length (a .blocked .now)) (a .rng .state) (a .num .now) (a .x .now) (a .free .now) _ _ _ _ _ _ is (c11 .phase-at .ensures) (w .0 .left)))
     (c .before .if1 .came)
 
 pub next-phase-spec : {M : Type 1} → statement M

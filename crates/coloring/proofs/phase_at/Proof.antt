@@ -32,7 +32,8 @@ slice-aggregate-phase-on-4 c = sym (length-take-le _ _ (omega arith))
 
 phase-on-requires : tie.Need-phase-on-requires
 phase-on-requires c κs =
-    (c .before .before .before .before .before .before .before .before .before .before .before .before .before .before .before .before .pre, (length-take-le _ _ (omega arith), length-take-le _ _ (omega arith), length-take-le _ _ (omega arith), length-take-le _ _ (omega arith)))
+    let c16 = c .before .before .before .before .before .before .before .before .before .before .before .before .before .before .before .before in
+    (c16 .pre, (length-take-le _ _ (omega arith), length-take-le _ _ (omega arith), length-take-le _ _ (omega arith), length-take-le _ _ (omega arith)))
 
 same-length : tie.Need-same-length
 same-length c = search needs

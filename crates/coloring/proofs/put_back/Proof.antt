@@ -38,7 +38,10 @@ shared-slice-read-v c = search needs
 
 mul-v-2 : tie.Need-mul-v-2 Inv-loop μ-loop
 mul-v-2 c =
-    let b : getD (c .before .before .before .before .args .places .now) (c .before .before .before .loop .p) 0 < length (c .before .before .before .before .args .v .now) = c .before .before .before .before .pre .1 .below (c .before .before .before .loop .p) (c .before .before .loop-test .taken) in
+    let c2 = c .before .before in
+    let c3 = c2 .before in
+    let c4 = c3 .before in
+    let b : getD (c4 .args .places .now) (c3 .loop .p) 0 < length (c4 .args .v .now) = c4 .pre .1 .below (c3 .loop .p) (c2 .loop-test .taken) in
     search needs
 
 slice-write-v : tie.Need-slice-write-v Inv-loop μ-loop

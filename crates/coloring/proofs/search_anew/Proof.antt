@@ -23,8 +23,11 @@ same-length-2 c = search needs
 
 returns : tie.Need-returns
 returns c =
-    let a = c .before .before .before .before .before .before .before .before .before .before .before .before .before .before .before .before .before .args in
-    c .before .before .before .before .local-search .ensures ∙ ap (searched (entryOf (a .u .now) (a .n) (a .cols .now) (a .scale .now)) (length (a .cols .now)) (a .x .now)) (c .before .before .before .before .before .before .before .before .before .times-into .ensures)
+    let c4 = c .before .before .before .before in
+    let c9 = c4 .before .before .before .before .before in
+    let c17 = c9 .before .before .before .before .before .before .before .before in
+    let a = c17 .args in
+    c4 .local-search .ensures ∙ ap (searched (entryOf (a .u .now) (a .n) (a .cols .now) (a .scale .now)) (length (a .cols .now)) (a .x .now)) (c9 .times-into .ensures)
 
 pub search-anew-spec : {M : Type 1} → statement M
 search-anew-spec =

@@ -31,34 +31,45 @@ loop-holds c =
     (start .pre .1, refl, refl, c .count-free .ensures, walk-begun _ _ _ _ _ _ _ _ (start .pre .2))
 
 next-phase-requires : tie.Need-next-phase-requires Inv-loop μ-loop
-next-phase-requires c κs = (rw (c .before .before .before .before .before .loop .inv .2) (c .before .before .before .before .before .before .before .before .before .before .before .before .before .before .before .pre .0), c .before .before .before .before .before .loop .inv .0)
+next-phase-requires c κs =
+    let c5 = c .before .before .before .before .before in
+    let c15 = c5 .before .before .before .before .before .before .before .before .before .before in
+    (rw (c5 .loop .inv .2) (c15 .pre .0), c5 .loop .inv .0)
 
 count-free-requires-2 : tie.Need-count-free-requires-2 Inv-loop μ-loop
 count-free-requires-2 c κs = search needs
 
 loop-less : tie.Need-loop-less Inv-loop μ-loop
 loop-less c =
-    let a = c .before .before .before .before .before .before .before .before .before .before .before .before .before .before .before .before .before .before .before .before .before .before .before .before .before .before .args in
-    let l = c .before .before .before .before .before .before .before .before .before .before .before .before .before .before .before .before .loop in
-    let step = rw (l .inv .2) at (c .before .before .before .before .before .before .before .before .before .before .next-phase .ensures) in
+    let c10 = c .before .before .before .before .before .before .before .before .before .before in
+    let c15 = c10 .before .before .before .before .before in
+    let c16 = c15 .before in
+    let c26 = c16 .before .before .before .before .before .before .before .before .before .before in
+    let a = c26 .args in
+    let l = c16 .loop in
+    let step = rw (l .inv .2) at (c10 .next-phase .ensures) in
     omega (
       arith,
       c .count-free2 .ensures,
       l .inv .3,
-      walk-falls plusZero (entryOf (a .u .now) (a .n) (a .cols .now) (a .scale .now)) (length (a .cols .now)) (length (a .blocked .now)) (between (length (a .blocked .now)) (l .num) (l .x) (l .free) (l .r .state)) _ step (λ z. omega (arith, l .inv .3, c .before .before .before .before .before .before .before .before .before .before .before .before .before .before .before .loop-test .taken)),
+      walk-falls plusZero (entryOf (a .u .now) (a .n) (a .cols .now) (a .scale .now)) (length (a .cols .now)) (length (a .blocked .now)) (between (length (a .blocked .now)) (l .num) (l .x) (l .free) (l .r .state)) _ step (λ z. omega (arith, l .inv .3, c15 .loop-test .taken)),
     )
 
 loop-again : tie.Need-loop-again Inv-loop μ-loop
 loop-again c =
-    let a = c .before .before .before .before .before .before .before .before .before .before .before .before .before .before .before .before .before .before .before .before .before .before .before .before .before .before .args in
-    let l = c .before .before .before .before .before .before .before .before .before .before .before .before .before .before .before .before .loop in
-    let step = rw (l .inv .2) at (c .before .before .before .before .before .before .before .before .before .before .next-phase .ensures) in
-    let kept = c .before .before .before .before .before .before .before .before .before .before .next-phase .kept in (
+    let c10 = c .before .before .before .before .before .before .before .before .before .before in
+    let c15 = c10 .before .before .before .before .before in
+    let c16 = c15 .before in
+    let c26 = c16 .before .before .before .before .before .before .before .before .before .before in
+    let a = c26 .args in
+    let l = c16 .loop in
+    let step = rw (l .inv .2) at (c10 .next-phase .ensures) in
+    let kept = c10 .next-phase .kept in (
       roomy-still _ _ _ _ _ _ _ _ _ (l .inv .0) (kept .0) (kept .1 .0) (kept .1 .1 .0) (kept .1 .1 .1 .0),
       kept .0 ∙ l .inv .1,
       kept .1 .0 ∙ l .inv .2,
       c .count-free2 .ensures,
-      l .inv .4 ∙ walk-turn plusZero (entryOf (a .u .now) (a .n) (a .cols .now) (a .scale .now)) (length (a .cols .now)) (length (a .blocked .now)) (between (length (a .blocked .now)) (l .num) (l .x) (l .free) (l .r .state)) _ step (λ z. omega (arith, l .inv .3, c .before .before .before .before .before .before .before .before .before .before .before .before .before .before .before .loop-test .taken)),
+      l .inv .4 ∙ walk-turn plusZero (entryOf (a .u .now) (a .n) (a .cols .now) (a .scale .now)) (length (a .cols .now)) (length (a .blocked .now)) (between (length (a .blocked .now)) (l .num) (l .x) (l .free) (l .r .state)) _ step (λ z. omega (arith, l .inv .3, c15 .loop-test .taken)),
     )
 
 same-length : tie.Need-same-length Inv-loop μ-loop
@@ -75,7 +86,8 @@ same-length-4 c = search needs
 
 returns : tie.Need-returns Inv-loop μ-loop
 returns c =
-    let a = c .before .before .before .before .before .before .before .before .before .before .before .args in
+    let c11 = c .before .before .before .before .before .before .before .before .before .before .before in
+    let a = c11 .args in
     let l = c .before .loop in
     sym (l .inv .4 ∙ walk-over plusZero (entryOf (a .u .now) (a .n) (a .cols .now) (a .scale .now)) (length (a .cols .now)) (length (a .blocked .now)) (between (length (a .blocked .now)) (l .num) (l .x) (l .free) (l .r .state)) (omega arith))
 

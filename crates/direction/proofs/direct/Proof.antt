@@ -22,9 +22,13 @@ same-length c = search needs
 
 returns : tie.Need-returns
 returns c =
-    let a = c .before .before .before .before .before .before .before .before .before .before .before .before .before .before .before .args in
+    let c4 = c .before .before .before .before in
+    let c8 = c4 .before .before .before .before in
+    let c10 = c8 .before .before in
+    let c15 = c10 .before .before .before .before .before in
+    let a = c15 .args in
     directs _ (vectorsIn (a .l) (a .count) (a .basis .now)) (a .free .now) (a .g .now) _ _ _ _
-    (c .before .before .before .before .before .before .before .before .before .before .norm .ensures) (c .before .before .before .before .before .before .before .before .project-out .ensures) (c .before .before .before .before .zero-frozen .ensures) (c .norm2 .ensures)
+    (c10 .norm .ensures) (c8 .project-out .ensures) (c4 .zero-frozen .ensures) (c .norm2 .ensures)
 
 pub direct-spec : {M : Type 1} → statement M
 direct-spec =

@@ -37,7 +37,9 @@ loop-less c = search needs
 
 loop-again : tie.Need-loop-again Inv-loop μ-loop
 unfolding drawAt afterDraws
-loop-again c = (turn (c .before .before .before .loop .inv .0) (omega arith) (c .before .gaussian .ensures .0 ∙ rw (c .before .before .before .loop .inv .1)), c .before .gaussian .ensures .1 ∙ rw (add-one, c .before .before .before .loop .inv .1))
+loop-again c =
+    let c3 = c .before .before .before in
+    (turn (c3 .loop .inv .0) (omega arith) (c .before .gaussian .ensures .0 ∙ rw (c3 .loop .inv .1)), c .before .gaussian .ensures .1 ∙ rw (add-one, c3 .loop .inv .1))
 
 same-length : tie.Need-same-length Inv-loop μ-loop
 same-length c = search needs

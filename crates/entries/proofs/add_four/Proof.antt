@@ -149,40 +149,64 @@ slice-read-two : tie.Need-slice-read-two Inv-loop μ-loop
 slice-read-two c = search needs
 
 add-two : tie.Need-add-two Inv-loop μ-loop
-add-two c = omega (arith, c .before .before .before .before .before .before .before .before .before .before .before .before .before .before .before .before .before .before .before .before .pre .0 .inside (c .before .before .before .before .before .before .before .before .before .before .before .before .before .before .before .before .before .before .before .before .args .p) (omega arith))
+add-two c =
+    let c20 = c .before .before .before .before .before .before .before .before .before .before .before .before .before .before .before .before .before .before .before .before in
+    omega (arith, c20 .pre .0 .inside (c20 .args .p) (omega arith))
 
 mul-two-2 : tie.Need-mul-two-2 Inv-loop μ-loop
-mul-two-2 c = omega (arith, c .before .before .before .before .before .before .before .before .before .before .before .before .before .before .before .before .before .before .before .before .pre .0 .inside (c .before .before .before .before .before .before .before .before .before .before .before .before .before .before .before .before .before .before .before .before .args .p) (omega arith))
+mul-two-2 c =
+    let c20 = c .before .before .before .before .before .before .before .before .before .before .before .before .before .before .before .before .before .before .before .before in
+    omega (arith, c20 .pre .0 .inside (c20 .args .p) (omega arith))
 
 shared-slice-read-two : tie.Need-shared-slice-read-two Inv-loop μ-loop
-shared-slice-read-two c = omega (arith, c .before .before .before .before .before .before .before .before .before .before .before .before .before .before .before .before .before .before .before .before .before .pre .0 .inside (c .before .before .before .before .before .before .before .before .before .before .before .before .before .before .before .before .before .before .before .before .before .args .p) (omega arith))
+shared-slice-read-two c =
+    let c21 = c .before .before .before .before .before .before .before .before .before .before .before .before .before .before .before .before .before .before .before .before .before in
+    omega (arith, c21 .pre .0 .inside (c21 .args .p) (omega arith))
 
 add-two-2 : tie.Need-add-two-2 Inv-loop μ-loop
-add-two-2 c = omega (arith, c .before .before .before .before .before .before .before .before .before .before .before .before .before .before .before .before .before .before .before .before .before .pre .0 .inside (c .before .before .before .before .before .before .before .before .before .before .before .before .before .before .before .before .before .before .before .before .before .args .p + 1) (omega arith))
+add-two-2 c =
+    let c21 = c .before .before .before .before .before .before .before .before .before .before .before .before .before .before .before .before .before .before .before .before .before in
+    omega (arith, c21 .pre .0 .inside (c21 .args .p + 1) (omega arith))
 
 mul-two-3 : tie.Need-mul-two-3 Inv-loop μ-loop
-mul-two-3 c = omega (arith, c .before .before .before .before .before .before .before .before .before .before .before .before .before .before .before .before .before .before .before .before .before .pre .0 .inside (c .before .before .before .before .before .before .before .before .before .before .before .before .before .before .before .before .before .before .before .before .before .args .p + 1) (omega arith))
+mul-two-3 c =
+    let c21 = c .before .before .before .before .before .before .before .before .before .before .before .before .before .before .before .before .before .before .before .before .before in
+    omega (arith, c21 .pre .0 .inside (c21 .args .p + 1) (omega arith))
 
 shared-slice-read-two-2 : tie.Need-shared-slice-read-two-2 Inv-loop μ-loop
-shared-slice-read-two-2 c = omega (arith, c .before .before .before .before .before .before .before .before .before .before .before .before .before .before .before .before .before .before .before .before .before .before .pre .0 .inside (c .before .before .before .before .before .before .before .before .before .before .before .before .before .before .before .before .before .before .before .before .before .before .args .p + 1) (omega arith))
+shared-slice-read-two-2 c =
+    let c22 = c .before .before .before .before .before .before .before .before .before .before .before .before .before .before .before .before .before .before .before .before .before .before in
+    omega (arith, c22 .pre .0 .inside (c22 .args .p + 1) (omega arith))
 
 add-acc : tie.Need-add-acc Inv-loop μ-loop
-add-acc c = omega (arith, c .before .before .before .before .before .before .before .before .before .before .before .before .before .before .before .before .before .before .before .before .before .before .pre .0 .inside (c .before .before .before .before .before .before .before .before .before .before .before .before .before .before .before .before .before .before .before .before .before .before .args .p + 2) (omega arith))
+add-acc c =
+    let c22 = c .before .before .before .before .before .before .before .before .before .before .before .before .before .before .before .before .before .before .before .before .before .before in
+    omega (arith, c22 .pre .0 .inside (c22 .args .p + 2) (omega arith))
 
 mul-acc : tie.Need-mul-acc Inv-loop μ-loop
-mul-acc c = omega (arith, c .before .before .before .before .before .before .before .before .before .before .before .before .before .before .before .before .before .before .before .before .before .before .pre .0 .inside (c .before .before .before .before .before .before .before .before .before .before .before .before .before .before .before .before .before .before .before .before .before .before .args .p + 2) (omega arith))
+mul-acc c =
+    let c22 = c .before .before .before .before .before .before .before .before .before .before .before .before .before .before .before .before .before .before .before .before .before .before in
+    omega (arith, c22 .pre .0 .inside (c22 .args .p + 2) (omega arith))
 
 shared-slice-read-acc : tie.Need-shared-slice-read-acc Inv-loop μ-loop
-shared-slice-read-acc c = omega (arith, c .before .before .before .before .before .before .before .before .before .before .before .before .before .before .before .before .before .before .before .before .before .before .before .pre .0 .inside (c .before .before .before .before .before .before .before .before .before .before .before .before .before .before .before .before .before .before .before .before .before .before .before .args .p + 2) (omega arith))
+shared-slice-read-acc c =
+    let c23 = c .before .before .before .before .before .before .before .before .before .before .before .before .before .before .before .before .before .before .before .before .before .before .before in
+    omega (arith, c23 .pre .0 .inside (c23 .args .p + 2) (omega arith))
 
 add-acc-2 : tie.Need-add-acc-2 Inv-loop μ-loop
-add-acc-2 c = omega (arith, c .before .before .before .before .before .before .before .before .before .before .before .before .before .before .before .before .before .before .before .before .before .before .before .pre .0 .inside (c .before .before .before .before .before .before .before .before .before .before .before .before .before .before .before .before .before .before .before .before .before .before .before .args .p + 3) (omega arith))
+add-acc-2 c =
+    let c23 = c .before .before .before .before .before .before .before .before .before .before .before .before .before .before .before .before .before .before .before .before .before .before .before in
+    omega (arith, c23 .pre .0 .inside (c23 .args .p + 3) (omega arith))
 
 mul-acc-2 : tie.Need-mul-acc-2 Inv-loop μ-loop
-mul-acc-2 c = omega (arith, c .before .before .before .before .before .before .before .before .before .before .before .before .before .before .before .before .before .before .before .before .before .before .before .pre .0 .inside (c .before .before .before .before .before .before .before .before .before .before .before .before .before .before .before .before .before .before .before .before .before .before .before .args .p + 3) (omega arith))
+mul-acc-2 c =
+    let c23 = c .before .before .before .before .before .before .before .before .before .before .before .before .before .before .before .before .before .before .before .before .before .before .before in
+    omega (arith, c23 .pre .0 .inside (c23 .args .p + 3) (omega arith))
 
 shared-slice-read-acc-2 : tie.Need-shared-slice-read-acc-2 Inv-loop μ-loop
-shared-slice-read-acc-2 c = omega (arith, c .before .before .before .before .before .before .before .before .before .before .before .before .before .before .before .before .before .before .before .before .before .before .before .before .pre .0 .inside (c .before .before .before .before .before .before .before .before .before .before .before .before .before .before .before .before .before .before .before .before .before .before .before .before .args .p + 3) (omega arith))
+shared-slice-read-acc-2 c =
+    let c24 = c .before .before .before .before .before .before .before .before .before .before .before .before .before .before .before .before .before .before .before .before .before .before .before .before in
+    omega (arith, c24 .pre .0 .inside (c24 .args .p + 3) (omega arith))
 
 mul-acc-3 : tie.Need-mul-acc-3 Inv-loop μ-loop
 mul-acc-3 c = search needs
@@ -198,11 +222,14 @@ loop-less c = search needs
 
 loop-again : tie.Need-loop-again Inv-loop μ-loop
 loop-again c =
-    let a = c .before .before .before .before .before .before .before .before .before .before .before .before .before .before .before .before .before .before .before .before .before .before .before .before .args in
-    let l = c .before .before .before .before .before .before .loop in
+    let c5 = c .before .before .before .before .before in
+    let c6 = c5 .before in
+    let c24 = c6 .before .before .before .before .before .before .before .before .before .before .before .before .before .before .before .before .before .before in
+    let a = c24 .args in
+    let l = c6 .loop in
     let v = l .inv .0 in
-    let t = c .before .before .before .before .before .before .before .before .before .before .before .before .before .before .before .before .before .before .before .before .before .before .before .before .pre in
-    (turn v (omega arith) (rw (still v (omega arith) nan) (four-own (a .u .now) (a .n) (a .cols .now) (a .scale .now) (a .g .now) (a .p) (l .i) (a .acc .now) (t .0 .inside) (t .2) (c .before .before .before .before .before .loop-test .taken))), omega arith)
+    let t = c24 .pre in
+    (turn v (omega arith) (rw (still v (omega arith) nan) (four-own (a .u .now) (a .n) (a .cols .now) (a .scale .now) (a .g .now) (a .p) (l .i) (a .acc .now) (t .0 .inside) (t .2) (c5 .loop-test .taken))), omega arith)
 
 mul-two-4 : tie.Need-mul-two-4 Inv-loop μ-loop
 mul-two-4 c = search needs
@@ -233,11 +260,16 @@ same-length c = search needs
 
 returns : tie.Need-returns Inv-loop μ-loop
 returns c =
-    let a = c .before .before .before .before .before .before .before .before .before .before .before .before .before .before .before .before .before .before .before .before .before .before .before .before .before .args in
-    let l = c .before .before .before .before .before .before .before .loop in
+    let c2 = c .before .before in
+    let c3 = c2 .before in
+    let c6 = c3 .before .before .before in
+    let c7 = c6 .before in
+    let c25 = c7 .before .before .before .before .before .before .before .before .before .before .before .before .before .before .before .before .before .before in
+    let a = c25 .args in
+    let l = c7 .loop in
     let v = l .inv .0 in
-    let t = c .before .before .before .before .before .before .before .before .before .before .before .before .before .before .before .before .before .before .before .before .before .before .before .before .before .pre in
-    whole (turn v (omega arith) (rw (still v (omega arith) nan, c .before .before .before .abs .ensures, c .before .before .abs2 .ensures, c .before .abs3 .ensures, c .abs4 .ensures) (four-under (a .u .now) (a .n) (a .cols .now) (a .scale .now) (a .g .now) (a .p) (l .i) (a .acc .now) (t .0 .inside) (t .2) (c .before .before .before .before .before .before .loop-test .left)))) (omega arith)
+    let t = c25 .pre in
+    whole (turn v (omega arith) (rw (still v (omega arith) nan, c3 .abs .ensures, c2 .abs2 .ensures, c .before .abs3 .ensures, c .abs4 .ensures) (four-under (a .u .now) (a .n) (a .cols .now) (a .scale .now) (a .g .now) (a .p) (l .i) (a .acc .now) (t .0 .inside) (t .2) (c6 .loop-test .left)))) (omega arith)
 
 same-length-2 : tie.Need-same-length-2 Inv-loop μ-loop
 same-length-2 c = search needs

@@ -51,7 +51,11 @@ shared-slice-read-gp : tie.Need-shared-slice-read-gp Inv-loop μ-loop
 shared-slice-read-gp c = search needs
 
 mul-add-column : tie.Need-mul-add-column Inv-loop μ-loop
-mul-add-column c = omega (arith, c .before .before .before .before .before .before .before .before .before .before .before .pre .0 .inside (c .before .before .before .before .before .loop .p) (c .before .before .before .before .loop-test .taken))
+mul-add-column c =
+    let c4 = c .before .before .before .before in
+    let c5 = c4 .before in
+    let c11 = c5 .before .before .before .before .before .before in
+    omega (arith, c11 .pre .0 .inside (c5 .loop .p) (c4 .loop-test .taken))
 
 sub-add-column : tie.Need-sub-add-column Inv-loop μ-loop
 sub-add-column c = search needs
@@ -60,7 +64,11 @@ part-add-column-start : tie.Need-part-add-column-start Inv-loop μ-loop
 part-add-column-start c = search needs
 
 part-add-column-end : tie.Need-part-add-column-end Inv-loop μ-loop
-part-add-column-end c = omega (arith, c .before .before .before .before .before .before .before .before .before .before .before .pre .0 .inside (c .before .before .before .before .before .loop .p) (c .before .before .before .before .loop-test .taken))
+part-add-column-end c =
+    let c4 = c .before .before .before .before in
+    let c5 = c4 .before in
+    let c11 = c5 .before .before .before .before .before .before in
+    omega (arith, c11 .pre .0 .inside (c5 .loop .p) (c4 .loop-test .taken))
 
 add-column-requires : tie.Need-add-column-requires Inv-loop μ-loop
 add-column-requires c κs = search needs

@@ -31,20 +31,25 @@ mul-result : tie.Need-mul-result
 mul-result c = omega (arith, c .before .before .before .before .before .before .pre .0 .inside (c .before .before .before .before .before .before .args .p) (c .before .before .before .before .before .before .pre .1))
 
 shared-slice-read-result : tie.Need-shared-slice-read-result
-shared-slice-read-result c = omega (arith, c .before .before .before .before .before .before .before .pre .0 .inside (c .before .before .before .before .before .before .before .args .p) (c .before .before .before .before .before .before .before .pre .1))
+shared-slice-read-result c =
+    let c7 = c .before .before .before .before .before .before .before in
+    omega (arith, c7 .pre .0 .inside (c7 .args .p) (c7 .pre .1))
 
 abs-requires : tie.Need-abs-requires
 abs-requires c κs = search needs
 
 returns : tie.Need-returns
 returns c =
-    let a = c .before .before .before .before .before .before .before .args in
-    sym (entry-own (a .u .now) (a .n) (a .cols .now) (a .scale .now) (a .p) (a .i) (c .before .before .before .before .before .before .before .pre .0 .inside (a .p) (c .before .before .before .before .before .before .before .pre .1)) (c .before .before .if1 .taken))
+    let c2 = c .before .before in
+    let c7 = c2 .before .before .before .before .before in
+    let a = c7 .args in
+    sym (entry-own (a .u .now) (a .n) (a .cols .now) (a .scale .now) (a .p) (a .i) (c7 .pre .0 .inside (a .p) (c7 .pre .1)) (c2 .if1 .taken))
 
 returns-2 : tie.Need-returns-2
 returns-2 c =
-    let a = c .before .before .before .before .before .before .args in
-    c .abs .ensures ∙ sym (entry-under (a .u .now) (a .n) (a .cols .now) (a .scale .now) (a .p) (a .i) (c .before .before .before .before .before .before .pre .0 .inside (a .p) (c .before .before .before .before .before .before .pre .1)) (c .before .if1 .left))
+    let c6 = c .before .before .before .before .before .before in
+    let a = c6 .args in
+    c .abs .ensures ∙ sym (entry-under (a .u .now) (a .n) (a .cols .now) (a .scale .now) (a .p) (a .i) (c6 .pre .0 .inside (a .p) (c6 .pre .1)) (c .before .if1 .left))
 
 pub entry-spec : {M : Type 1} → statement M
 entry-spec =

@@ -49,7 +49,11 @@ shared-slice-read-s : tie.Need-shared-slice-read-s Inv-loop μ-loop
 shared-slice-read-s c = omega (arith, c .before .before .before .before .before .before .before .before .before .before .before .before .pre .paired)
 
 mul-add-squares : tie.Need-mul-add-squares Inv-loop μ-loop
-mul-add-squares c = omega (arith, c .before .before .before .before .before .before .before .before .before .before .before .before .before .pre .inside (c .before .before .before .before .loop .p) (c .before .before .before .loop-test .taken))
+mul-add-squares c =
+    let c3 = c .before .before .before in
+    let c4 = c3 .before in
+    let c13 = c4 .before .before .before .before .before .before .before .before .before in
+    omega (arith, c13 .pre .inside (c4 .loop .p) (c3 .loop-test .taken))
 
 sub-add-squares : tie.Need-sub-add-squares Inv-loop μ-loop
 sub-add-squares c = search needs
@@ -58,7 +62,11 @@ part-add-squares-start : tie.Need-part-add-squares-start Inv-loop μ-loop
 part-add-squares-start c = search needs
 
 part-add-squares-end : tie.Need-part-add-squares-end Inv-loop μ-loop
-part-add-squares-end c = omega (arith, c .before .before .before .before .before .before .before .before .before .before .before .before .before .pre .inside (c .before .before .before .before .loop .p) (c .before .before .before .loop-test .taken))
+part-add-squares-end c =
+    let c3 = c .before .before .before in
+    let c4 = c3 .before in
+    let c13 = c4 .before .before .before .before .before .before .before .before .before in
+    omega (arith, c13 .pre .inside (c4 .loop .p) (c3 .loop-test .taken))
 
 add-squares-requires : tie.Need-add-squares-requires Inv-loop μ-loop
 add-squares-requires c κs = search needs

@@ -49,10 +49,13 @@ abs-requires c κs = search needs
 
 returns-2 : tie.Need-returns-2 Inv-loop μ-loop
 returns-2 c =
-    let a = c .before .before .before .before .before .before .before .before .before .args in
-    let i = c .before .before .before .before .before .loop .i in
-    let e : le (a .bound) (absOf (lessAt (scaledAt (a .column .now) (a .s)) (a .t) (a .ax .now) i)) ≡ true = rw (scaled-own (a .column .now) (a .s) i (c .before .before .before .before .loop-test .taken), ← c .before .abs .ensures) (c .if2 .taken) in
-    sym (not-below (lessAt (scaledAt (a .column .now) (a .s)) (a .t) (a .ax .now)) (λ j. sub-fits binary64 _ _) (a .bound) (subst T (sym (c .before .before .before .before .before .before .before .before .before .good .1 .1 .1 .1 .0 .1)) tt) i _ (omega arith) e)
+    let c4 = c .before .before .before .before in
+    let c5 = c4 .before in
+    let c9 = c5 .before .before .before .before in
+    let a = c9 .args in
+    let i = c5 .loop .i in
+    let e : le (a .bound) (absOf (lessAt (scaledAt (a .column .now) (a .s)) (a .t) (a .ax .now) i)) ≡ true = rw (scaled-own (a .column .now) (a .s) i (c4 .loop-test .taken), ← c .before .abs .ensures) (c .if2 .taken) in
+    sym (not-below (lessAt (scaledAt (a .column .now) (a .s)) (a .t) (a .ax .now)) (λ j. sub-fits binary64 _ _) (a .bound) (subst T (sym (c9 .good .1 .1 .1 .1 .0 .1)) tt) i _ (omega arith) e)
 
 add-i : tie.Need-add-i Inv-loop μ-loop
 add-i c = search needs
@@ -62,10 +65,13 @@ loop-less c = search needs
 
 loop-again : tie.Need-loop-again Inv-loop μ-loop
 loop-again c =
-    let a = c .before .before .before .before .before .before .before .before .before .args in
-    let i = c .before .before .before .before .before .loop .i in
-    let e : le (a .bound) (absOf (lessAt (scaledAt (a .column .now) (a .s)) (a .t) (a .ax .now) i)) ≡ false = rw (scaled-own (a .column .now) (a .s) i (c .before .before .before .before .loop-test .taken), ← c .before .abs .ensures) (c .if2 .left) in
-    (omega arith, still-below (lessAt (scaledAt (a .column .now) (a .s)) (a .t) (a .ax .now)) (λ j. sub-fits binary64 _ _) (a .bound) (subst T (sym (c .before .before .before .before .before .before .before .before .before .good .1 .1 .1 .1 .0 .1)) tt) i (c .before .before .before .before .before .loop .inv .1) e)
+    let c4 = c .before .before .before .before in
+    let c5 = c4 .before in
+    let c9 = c5 .before .before .before .before in
+    let a = c9 .args in
+    let i = c5 .loop .i in
+    let e : le (a .bound) (absOf (lessAt (scaledAt (a .column .now) (a .s)) (a .t) (a .ax .now) i)) ≡ false = rw (scaled-own (a .column .now) (a .s) i (c4 .loop-test .taken), ← c .before .abs .ensures) (c .if2 .left) in
+    (omega arith, still-below (lessAt (scaledAt (a .column .now) (a .s)) (a .t) (a .ax .now)) (λ j. sub-fits binary64 _ _) (a .bound) (subst T (sym (c9 .good .1 .1 .1 .1 .0 .1)) tt) i (c5 .loop .inv .1) e)
 
 mul-abs-3 : tie.Need-mul-abs-3 Inv-loop μ-loop
 mul-abs-3 c = search needs
@@ -81,11 +87,14 @@ abs-requires-3 c κs = search needs
 
 returns-3 : tie.Need-returns-3 Inv-loop μ-loop
 returns-3 c =
-    let a = c .before .before .before .before .before .before .before .before .before .args in
-    let i = c .before .before .before .before .before .loop .i in
+    let c4 = c .before .before .before .before in
+    let c5 = c4 .before in
+    let c9 = c5 .before .before .before .before in
+    let a = c9 .args in
+    let i = c5 .loop .i in
     let all : length (a .ax .now) ≡ i + 1 = omega arith in
-    let e : c .abs3 .result ≡ absOf (lessAt (scaledAt (a .column .now) (a .s)) (a .t) (a .ax .now) i) = c .abs3 .ensures ∙ rw (scaled-under (a .column .now) (a .s) i (c .before .before .before .before .loop-test .left), c .before .abs2 .ensures) in
-    rw (e, all) (last-below (lessAt (scaledAt (a .column .now) (a .s)) (a .t) (a .ax .now)) (λ j. sub-fits binary64 _ _) (a .bound) (subst T (sym (c .before .before .before .before .before .before .before .before .before .good .1 .1 .1 .1 .0 .1)) tt) i (c .before .before .before .before .before .loop .inv .1))
+    let e : c .abs3 .result ≡ absOf (lessAt (scaledAt (a .column .now) (a .s)) (a .t) (a .ax .now) i) = c .abs3 .ensures ∙ rw (scaled-under (a .column .now) (a .s) i (c4 .loop-test .left), c .before .abs2 .ensures) in
+    rw (e, all) (last-below (lessAt (scaledAt (a .column .now) (a .s)) (a .t) (a .ax .now)) (λ j. sub-fits binary64 _ _) (a .bound) (subst T (sym (c9 .good .1 .1 .1 .1 .0 .1)) tt) i (c5 .loop .inv .1))
 
 returns-4 : tie.Need-returns-4 Inv-loop μ-loop
 returns-4 c =

@@ -29,7 +29,11 @@ add-loop : tie.Need-add-loop Inv-loop μ-loop
 add-loop c = search needs
 
 add-four-requires : tie.Need-add-four-requires Inv-loop μ-loop
-add-four-requires c κs = (rw (c .before .before .loop .inv .1 ∙ c .before .before .before .before .before .clear .kept .0) (c .before .before .before .before .before .before .before .before .before .before .before .before .pre .0), c .before .before .before .before .before .before .before .before .before .before .before .before .pre .1, omega arith)
+add-four-requires c κs =
+    let c2 = c .before .before in
+    let c5 = c2 .before .before .before in
+    let c12 = c5 .before .before .before .before .before .before .before in
+    (rw (c2 .loop .inv .1 ∙ c5 .clear .kept .0) (c12 .pre .0), c12 .pre .1, omega arith)
 
 add-p : tie.Need-add-p Inv-loop μ-loop
 add-p c = search needs
@@ -47,7 +51,11 @@ loop-again c =
     )
 
 add-from-requires : tie.Need-add-from-requires Inv-loop μ-loop
-add-from-requires c κs = (rw (c .before .before .loop .inv .1 ∙ c .before .before .before .before .before .clear .kept .0) (c .before .before .before .before .before .before .before .before .before .before .before .before .pre .0), c .before .before .before .before .before .before .before .before .before .before .before .before .pre .1, c .before .before .loop .inv .0, rw (c .before .before .loop .inv .1) (c .before .before .loop .inv .2))
+add-from-requires c κs =
+    let c2 = c .before .before in
+    let c5 = c2 .before .before .before in
+    let c12 = c5 .before .before .before .before .before .before .before in
+    (rw (c2 .loop .inv .1 ∙ c5 .clear .kept .0) (c12 .pre .0), c12 .pre .1, c2 .loop .inv .0, rw (c2 .loop .inv .1) (c2 .loop .inv .2))
 
 same-length : tie.Need-same-length Inv-loop μ-loop
 same-length c = search needs

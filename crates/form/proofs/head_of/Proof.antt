@@ -36,7 +36,14 @@ add-t13 : tie.Need-add-t13
 add-t13 c = omega (arith, next-sizes _ _ _ (c .before .before .before .before .before .before .before .before .before .before .sizes-at .ensures), next-rule _ _ _ (c .before .before .before .before .before .rule-at .ensures))
 
 returns : tie.Need-returns
-returns c = head-is _ _ _ _ _ _ _ (c .before .before .before .before .before .before .before .before .before .before .before .spells .ensures) (c .before .before .before .before .before .before .before .before .before .before .sizes-at .ensures) (c .before .before .before .before .before .before .before .before .before .bits-at .ensures) (c .before .before .before .before .before .before .before .byte-at .ensures) (c .before .before .before .before .before .rule-at .ensures) (c .before .before .before .before .byte-at2 .ensures)
+returns c =
+    let c4 = c .before .before .before .before in
+    let c5 = c4 .before in
+    let c7 = c5 .before .before in
+    let c9 = c7 .before .before in
+    let c10 = c9 .before in
+    let c11 = c10 .before in
+    head-is _ _ _ _ _ _ _ (c11 .spells .ensures) (c10 .sizes-at .ensures) (c9 .bits-at .ensures) (c7 .byte-at .ensures) (c5 .rule-at .ensures) (c4 .byte-at2 .ensures)
 
 pub head-of-spec : {M : Type 1} → statement M
 head-of-spec =

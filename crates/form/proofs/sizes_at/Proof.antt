@@ -24,7 +24,12 @@ add-t17 : tie.Need-add-t17
 add-t17 c = omega (arith, next-count _ _ _ (c .before .before .before .before .before .before .count-at2 .ensures), next-count _ _ _ (c .before .before .before .before .before .before .before .before .before .count-at .ensures))
 
 returns : tie.Need-returns
-returns c = sizes-is _ _ _ _ _ _ (c .before .before .before .before .before .before .before .before .before .count-at .ensures) (c .before .before .before .before .before .before .before .before .byte-at .ensures) (c .before .before .before .before .before .before .count-at2 .ensures) (c .before .before .before .before .before .byte-at2 .ensures)
+returns c =
+    let c5 = c .before .before .before .before .before in
+    let c6 = c5 .before in
+    let c8 = c6 .before .before in
+    let c9 = c8 .before in
+    sizes-is _ _ _ _ _ _ (c9 .count-at .ensures) (c8 .byte-at .ensures) (c6 .count-at2 .ensures) (c5 .byte-at2 .ensures)
 
 pub sizes-at-spec : {M : Type 1} → statement M
 sizes-at-spec =

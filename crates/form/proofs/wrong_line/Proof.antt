@@ -37,10 +37,18 @@ add-result-2 : tie.Need-add-result-2
 add-result-2 c = omega (arith, sized _ _ (c .before .before .before .before .before .before .before .before .before .before .head-of .ensures) (not-false _ (c .before .before .before .before .before .before .before .before .if1 .left)))
 
 returns-3 : tie.Need-returns-3
-returns-3 c = none-wrong _ _ _ (c .before .before .before .before .before .before .before .before .before .head-of .ensures) (not-false _ (c .before .before .before .before .before .before .before .if1 .left)) (c .before .before .before .before .before .before .columns-from .ensures) (omega arith) (omega arith)
+returns-3 c =
+    let c6 = c .before .before .before .before .before .before in
+    let c7 = c6 .before in
+    let c9 = c7 .before .before in
+    none-wrong _ _ _ (c9 .head-of .ensures) (not-false _ (c7 .if1 .left)) (c6 .columns-from .ensures) (omega arith) (omega arith)
 
 returns-4 : tie.Need-returns-4
-returns-4 c = end-wrong _ _ _ (c .before .before .before .before .before .before .before .before .before .before .head-of .ensures) (not-false _ (c .before .before .before .before .before .before .before .before .if1 .left)) (c .before .before .before .before .before .before .before .columns-from .ensures) (omega arith) (λ p. omega arith)
+returns-4 c =
+    let c7 = c .before .before .before .before .before .before .before in
+    let c8 = c7 .before in
+    let c10 = c8 .before .before in
+    end-wrong _ _ _ (c10 .head-of .ensures) (not-false _ (c8 .if1 .left)) (c7 .columns-from .ensures) (omega arith) (λ p. omega arith)
 
 pub wrong-line-spec : {M : Type 1} → statement M
 wrong-line-spec =

@@ -27,7 +27,8 @@ same-length-2 c = search needs
 
 returns : tie.Need-returns
 returns c =
-    let a = c .before .before .before .before .before .before .before .before .before .before .args in
+    let c10 = c .before .before .before .before .before .before .before .before .before .before in
+    let a = c10 .args in
     all-blocked _ _ (a .num .now) (a .blocked .now) _ (c .before .worst .result) (worst-is (entryOf (a .u .now) (a .n) (a .cols .now) (a .scale .now)) (length (a .cols .now)) (a .num .now) (a .blocked .now) (a .count) _ (omega arith) (c .before .worst .ensures)) (c .if1 .taken)
 
 same-length-3 : tie.Need-same-length-3
@@ -82,10 +83,15 @@ same-length-7 c = search needs
 
 returns-3 : tie.Need-returns-3
 returns-3 c =
-    let a = c .before .before .before .before .before .before .before .before .before .before .before .before .before .before .before .before .before .before .args in
+    let c4 = c .before .before .before .before in
+    let c7 = c4 .before .before .before in
+    let c8 = c7 .before in
+    let c9 = c8 .before in
+    let c18 = c9 .before .before .before .before .before .before .before .before .before in
+    let a = c18 .args in
     let e = entryOf (a .u .now) (a .n) (a .cols .now) (a .scale .now) in
-    blocks e (length (a .cols .now)) (a .num .now) (a .blocked .now) (a .count) (c .before .before .before .before .before .before .before .before .before .worst .result) (c .before .before .before .before .block-row .result) (c .before .before .before .before .block-row .last .0)
-    (worst-is e (length (a .cols .now)) (a .num .now) (a .blocked .now) (a .count) _ (omega arith) (c .before .before .before .before .before .before .before .before .before .worst .ensures)) (c .before .before .before .before .before .before .before .before .if1 .left) (c .before .before .before .before .before .before .before .if2 .left) (omega arith) (c .before .before .before .before .block-row .ensures)
+    blocks e (length (a .cols .now)) (a .num .now) (a .blocked .now) (a .count) (c9 .worst .result) (c4 .block-row .result) (c4 .block-row .last .0)
+    (worst-is e (length (a .cols .now)) (a .num .now) (a .blocked .now) (a .count) _ (omega arith) (c9 .worst .ensures)) (c8 .if1 .left) (c7 .if2 .left) (omega arith) (c4 .block-row .ensures)
 
 pub block-worst-spec : {M : Type 1} → statement M
 block-worst-spec =

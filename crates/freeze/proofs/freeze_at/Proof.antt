@@ -58,10 +58,13 @@ insert-requires c κs = search needs
 
 block-worst-requires : tie.Need-block-worst-requires
 block-worst-requires c κs =
-    let a = c .before .before .before .before .before .before .before .before .before .before .before .before .before .before .before .before .before .before .before .before .before .before .before .before .args in
-    let p = c .before .before .before .before .before .before .before .before .before .before .before .before .before .before .before .before .before .before .before .before .before .before .before .before .pre in
-    let r = room-after (entryOf (a .u .now) (a .n) (a .cols .now) (a .scale .now)) (length (a .cols .now)) (a .num .now) (a .blocked .now) (a .x .now) (a .free .now) (a .count) (a .p) (c .before .before .before .before .before .before .before .insert .result) 0 nan (c .before .before .before .before .before .before .before .insert .last .0) [] [] (p .1) (c .before .before .before .before .before .before .before .before .before .before .before .before .axis-into .last .0) (c .before .before .before .before .before .before .before .insert .kept .0) (c .before .before .before .before .before .before .before .insert .ensures) in
-    (p .0, c .before .before .before .before .before .before .before .insert .kept .1 .1 .1 .0 ∙ c .before .before .before .before .before .before .before .before .before .before .before .before .axis-into .kept .0 ∙ p .2, r .0, r .1)
+    let c7 = c .before .before .before .before .before .before .before in
+    let c12 = c7 .before .before .before .before .before in
+    let c24 = c12 .before .before .before .before .before .before .before .before .before .before .before .before in
+    let a = c24 .args in
+    let p = c24 .pre in
+    let r = room-after (entryOf (a .u .now) (a .n) (a .cols .now) (a .scale .now)) (length (a .cols .now)) (a .num .now) (a .blocked .now) (a .x .now) (a .free .now) (a .count) (a .p) (c7 .insert .result) 0 nan (c7 .insert .last .0) [] [] (p .1) (c12 .axis-into .last .0) (c7 .insert .kept .0) (c7 .insert .ensures) in
+    (p .0, c7 .insert .kept .1 .1 .1 .0 ∙ c12 .axis-into .kept .0 ∙ p .2, r .0, r .1)
 
 same-length : tie.Need-same-length
 same-length c = search needs
@@ -80,10 +83,15 @@ same-length-5 c = search needs
 
 returns : tie.Need-returns
 returns c =
-    let a = c .before .before .before .before .before .before .before .before .before .before .before .before .before .before .before .before .before .before .before .before .before .before .before .before .before .before .before .before .before .before .before .args in
-    let p = c .before .before .before .before .before .before .before .before .before .before .before .before .before .before .before .before .before .before .before .before .before .before .before .before .before .before .before .before .before .before .before .pre in
-    freezes-at (entryOf (a .u .now) (a .n) (a .cols .now) (a .scale .now)) (length (a .cols .now)) (a .num .now) (a .blocked .now) (a .x .now) (a .free .now) (a .count) (a .p) (c .before .before .before .before .before .before .before .before .before .before .before .before .before .before .insert .result) (c .before .before .before .before .before .before .block-worst .result) (c .before .before .before .before .before .before .before .before .before .before .before .before .before .before .before .before .before .before .before .before .before .signum .result) (c .before .before .before .before .before .before .before .before .before .before .before .before .before .before .insert .last .0) (c .before .before .before .before .before .before .block-worst .last .0) (c .before .before .before .before .before .before .block-worst .last .1 .1 .0) (p .1)
-    (c .before .before .before .before .before .before .before .before .before .before .before .before .before .before .before .before .before .before .before .axis-into .last .0) (c .before .before .before .before .before .before .before .before .before .before .before .before .before .before .before .before .before .before .before .axis-into .ensures ∙ ap (λ (k : ℕ). axis k (a .p)) (p .2)) (c .before .before .before .before .before .before .before .before .before .before .before .before .before .before .before .before .before .before .before .before .before .signum .ensures) (c .before .before .before .before .before .before .before .before .before .before .before .before .before .before .insert .ensures) (c .before .before .before .before .before .before .block-worst .ensures) (c .before .before .before .before .before .before .block-worst .kept .1 .1 .0)
+    let c6 = c .before .before .before .before .before .before in
+    let c14 = c6 .before .before .before .before .before .before .before .before in
+    let c19 = c14 .before .before .before .before .before in
+    let c21 = c19 .before .before in
+    let c31 = c21 .before .before .before .before .before .before .before .before .before .before in
+    let a = c31 .args in
+    let p = c31 .pre in
+    freezes-at (entryOf (a .u .now) (a .n) (a .cols .now) (a .scale .now)) (length (a .cols .now)) (a .num .now) (a .blocked .now) (a .x .now) (a .free .now) (a .count) (a .p) (c14 .insert .result) (c6 .block-worst .result) (c21 .signum .result) (c14 .insert .last .0) (c6 .block-worst .last .0) (c6 .block-worst .last .1 .1 .0) (p .1)
+    (c19 .axis-into .last .0) (c19 .axis-into .ensures ∙ ap (λ (k : ℕ). axis k (a .p)) (p .2)) (c21 .signum .ensures) (c14 .insert .ensures) (c6 .block-worst .ensures) (c6 .block-worst .kept .1 .1 .0)
 
 pub freeze-at-spec : {M : Type 1} → statement M
 freeze-at-spec =

@@ -66,9 +66,13 @@ same-length-4 c = search needs
 
 returns-2 : tie.Need-returns-2
 returns-2 c =
-    let a = c .before .before .before .before .before .before .before .before .before .before .before .before .before .before .before .before .before .before .before .before .before .before .before .before .before .args in
-    let p = c .before .before .before .before .before .before .before .before .before .before .before .before .before .before .before .before .before .remaining-into .ensures in
-    halve-some (columnsOf (a .matrix .now) (a .n)) (a .n) (a .w .now) (a .omega) (a .rest .now) (a .rng .state) (λ e. c .before .before .before .before .before .before .before .before .before .before .before .before .before .before .before .if1 .left (sym (p .long) ∙ e)) _ _ (rw (p .front) at (c .before .before .before .before .before .before .before .before .halve-some .ensures))
+    let c8 = c .before .before .before .before .before .before .before .before in
+    let c15 = c8 .before .before .before .before .before .before .before in
+    let c17 = c15 .before .before in
+    let c25 = c17 .before .before .before .before .before .before .before .before in
+    let a = c25 .args in
+    let p = c17 .remaining-into .ensures in
+    halve-some (columnsOf (a .matrix .now) (a .n)) (a .n) (a .w .now) (a .omega) (a .rest .now) (a .rng .state) (λ e. c15 .if1 .left (sym (p .long) ∙ e)) _ _ (rw (p .front) at (c8 .halve-some .ensures))
 
 pub halve-spec : {M : Type 1} → statement M
 halve-spec =

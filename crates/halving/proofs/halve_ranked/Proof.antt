@@ -18,10 +18,17 @@ mul-halve-twice : tie.Need-mul-halve-twice
 mul-halve-twice c = search needs
 
 sub-halve-twice : tie.Need-sub-halve-twice
-sub-halve-twice c = omega (arith, kept-within _ _ _ (c .before .before .before .before .rank-into .ensures) (c .before .kept-count .ensures) (c .before .before .before .before .before .before .before .before .before .before .before .before .before .pre .1))
+sub-halve-twice c =
+    let c4 = c .before .before .before .before in
+    let c13 = c4 .before .before .before .before .before .before .before .before .before in
+    omega (arith, kept-within _ _ _ (c4 .rank-into .ensures) (c .before .kept-count .ensures) (c13 .pre .1))
 
 part-halve-twice-start : tie.Need-part-halve-twice-start
-part-halve-twice-start c = omega (arith, kept-within _ _ _ (c .before .before .before .before .before .rank-into .ensures) (c .before .before .kept-count .ensures) (c .before .before .before .before .before .before .before .before .before .before .before .before .before .before .pre .1))
+part-halve-twice-start c =
+    let c2 = c .before .before in
+    let c5 = c2 .before .before .before in
+    let c14 = c5 .before .before .before .before .before .before .before .before .before in
+    omega (arith, kept-within _ _ _ (c5 .rank-into .ensures) (c2 .kept-count .ensures) (c14 .pre .1))
 
 part-halve-twice-end : tie.Need-part-halve-twice-end
 part-halve-twice-end c = search needs

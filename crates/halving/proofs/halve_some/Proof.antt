@@ -48,11 +48,16 @@ same-length-5 c = search needs
 
 returns : tie.Need-returns
 returns c =
-    let a = c .before .before .before .before .before .before .before .before .before .before .before .before .before .before .before .before .before .before .before .before .before .before .before .before .before .before .before .before .before .before .args in
-    let v = c .before .before .before .before .before .before .before .before .before .before .before .before .before .before .before .before .before .before .before .before .before .before .before .before .before .before .before .before .before .before .pre in
-    let d = c .before .before .before .before .before .before .before .before .before .before .before .before .before .coloring in
+    let c2 = c .before .before in
+    let c5 = c2 .before .before .before in
+    let c13 = c5 .before .before .before .before .before .before .before .before in
+    let c20 = c13 .before .before .before .before .before .before .before in
+    let c30 = c20 .before .before .before .before .before .before .before .before .before .before in
+    let a = c30 .args in
+    let v = c30 .pre in
+    let d = c13 .coloring in
     halved-by (a .matrix .now) (a .n) (a .w .now) (a .omega) (a .some .now) (v .whole) (v .inside .below) (a .rng .state) _ _ _ _
-    _ _ (c .before .before .before .before .before .before .before .before .before .before .before .before .before .before .before .before .before .before .before .before .scales-into .ensures) (v .rows) (d .ensures .0) (d .ensures .1) (c .before .before .before .before .before .sigma-of .ensures) (c .before .before .double-or-zero .ensures)
+    _ _ (c20 .scales-into .ensures) (v .rows) (d .ensures .0) (d .ensures .1) (c5 .sigma-of .ensures) (c2 .double-or-zero .ensures)
 
 pub halve-some-spec : {M : Type 1} → statement M
 halve-some-spec =

@@ -17,7 +17,9 @@ mul-abs : tie.Need-mul-abs
 mul-abs c = omega (arith, c .shared-slice-known3 .given 0)
 
 slice-read-abs : tie.Need-slice-read-abs
-slice-read-abs c = rest-below (c .before .before .before .before .before .before .before .args .w .now) (c .before .before .before .before .before .before .before .args .rest .now) (c .before .before .before .before .before .before .before .pre .1) .below 0 (c .before .before .before .before .before .before .before .pre .2)
+slice-read-abs c =
+    let c7 = c .before .before .before .before .before .before .before in
+    rest-below (c7 .args .w .now) (c7 .args .rest .now) (c7 .pre .1) .below 0 (c7 .pre .2)
 
 abs-requires : tie.Need-abs-requires
 abs-requires c κs = search needs
@@ -50,8 +52,13 @@ same-length-3 c = search needs
 
 returns : tie.Need-returns
 returns c =
-    let a = c .before .before .before .before .before .before .before .before .before .before .before .before .before .before .before .before .before .before .before .before .before .before .before .before .before .before .before .before .before .before .before .before .args in
-    pass-holds (columnsOf (a .matrix .now) (a .n)) (a .n) (a .w .now) _ _ _ (a .rest .now) (c .before .before .before .before .before .before .before .before .before .before .before .before .before .before .before .before .before .before .before .before .before .before .before .before .abs .result) (a .rng .state) _ _ _ _ (c .before .before .before .before .before .before .before .before .before .before .before .before .before .before .before .before .before .before .before .before .before .before .before .before .before .before .before .before .before .before .before .before .pre .1) (c .before .before .before .before .before .before .before .before .before .before .before .before .before .before .before .before .before .before .before .before .before .before .before .before .abs .ensures) (c .before .before .before .before .before .before .before .before .before .before .before .before .before .before .before .before .before .before .before .before .halve .ensures) (c .before .before .before .before .before .before .before .before .before .before .halve2 .ensures) (c .before .before .normalize .ensures .0) (c .before .before .normalize .ensures .1) refl refl
+    let c2 = c .before .before in
+    let c10 = c2 .before .before .before .before .before .before .before .before in
+    let c20 = c10 .before .before .before .before .before .before .before .before .before .before in
+    let c24 = c20 .before .before .before .before in
+    let c32 = c24 .before .before .before .before .before .before .before .before in
+    let a = c32 .args in
+    pass-holds (columnsOf (a .matrix .now) (a .n)) (a .n) (a .w .now) _ _ _ (a .rest .now) (c24 .abs .result) (a .rng .state) _ _ _ _ (c32 .pre .1) (c24 .abs .ensures) (c20 .halve .ensures) (c10 .halve2 .ensures) (c2 .normalize .ensures .0) (c2 .normalize .ensures .1) refl refl
 
 pub halve-twice-spec : {M : Type 1} → statement M
 halve-twice-spec =

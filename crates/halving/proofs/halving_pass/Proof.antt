@@ -26,8 +26,10 @@ slice-aggregate-halve-ranked-2 c = sym (length-take-le _ _ (omega arith))
 
 halve-ranked-requires : tie.Need-halve-ranked-requires
 halve-ranked-requires c κs =
-    let p = c .before .before .before .before .before .before .support-into .ensures in
-    (c .before .before .before .before .before .before .before .before .before .before .before .before .before .pre .0, c .before .before .before .before .before .before .before .before .before .before .before .before .before .pre .1, p .front, length-take-le _ _ (omega arith) ∙ sym (length-take-le _ _ (p .within)))
+    let c6 = c .before .before .before .before .before .before in
+    let c13 = c6 .before .before .before .before .before .before .before in
+    let p = c6 .support-into .ensures in
+    (c13 .pre .0, c13 .pre .1, p .front, length-take-le _ _ (omega arith) ∙ sym (length-take-le _ _ (p .within)))
 
 same-length : tie.Need-same-length
 same-length c = search needs

@@ -21,7 +21,10 @@ returns-2 : tie.Need-returns-2
 returns-2 c = dropped-zero (rw (← c .before .norm .ensures) (c .if2 .taken))
 
 project-out-requires : tie.Need-project-out-requires
-project-out-requires c κs = (c .before .before .before .before .before .before .before .before .pre .0, omega (arith, room (c .before .before .before .before .before .before .before .before .args .count) (c .before .before .before .before .before .before .before .before .args .l) (c .before .before .before .before .before .before .before .before .args .l) (c .before .before .before .before .before .if1 .left)))
+project-out-requires c κs =
+    let c5 = c .before .before .before .before .before in
+    let c8 = c5 .before .before .before in
+    (c8 .pre .0, omega (arith, room (c8 .args .count) (c8 .args .l) (c8 .args .l) (c5 .if1 .left)))
 
 norm-requires-2 : tie.Need-norm-requires-2
 norm-requires-2 c κs = search needs
@@ -39,13 +42,22 @@ returns-3 c =
     (rw (← c .before .before .before .before .before .project-out .ensures, ← c .before .norm2 .ensures, ← c .before .before .before .before .before .before .before .before .before .norm .ensures) (c .if3 .taken))
 
 mul-end : tie.Need-mul-end
-mul-end c = omega (arith, room (c .before .before .before .before .before .before .before .before .before .before .before .before .before .before .args .count) (c .before .before .before .before .before .before .before .before .before .before .before .before .before .before .args .l) (c .before .before .before .before .before .before .before .before .before .before .before .before .before .before .args .l) (c .before .before .before .before .before .before .before .before .before .before .before .if1 .left))
+mul-end c =
+    let c11 = c .before .before .before .before .before .before .before .before .before .before .before in
+    let c14 = c11 .before .before .before in
+    omega (arith, room (c14 .args .count) (c14 .args .l) (c14 .args .l) (c11 .if1 .left))
 
 add-stop : tie.Need-add-stop
-add-stop c = omega (arith, room (c .before .before .before .before .before .before .before .before .before .before .before .before .before .before .args .count) (c .before .before .before .before .before .before .before .before .before .before .before .before .before .before .args .l) (c .before .before .before .before .before .before .before .before .before .before .before .before .before .before .args .l) (c .before .before .before .before .before .before .before .before .before .before .before .if1 .left))
+add-stop c =
+    let c11 = c .before .before .before .before .before .before .before .before .before .before .before in
+    let c14 = c11 .before .before .before in
+    omega (arith, room (c14 .args .count) (c14 .args .l) (c14 .args .l) (c11 .if1 .left))
 
 mul-over : tie.Need-mul-over
-mul-over c = omega (arith, room (c .before .before .before .before .before .before .before .before .before .before .before .before .before .before .args .count) (c .before .before .before .before .before .before .before .before .before .before .before .before .before .before .args .l) (c .before .before .before .before .before .before .before .before .before .before .before .before .before .before .args .l) (c .before .before .before .before .before .before .before .before .before .before .before .if1 .left))
+mul-over c =
+    let c11 = c .before .before .before .before .before .before .before .before .before .before .before in
+    let c14 = c11 .before .before .before in
+    omega (arith, room (c14 .args .count) (c14 .args .l) (c14 .args .l) (c11 .if1 .left))
 
 sub-over : tie.Need-sub-over
 sub-over c = search needs
@@ -54,7 +66,10 @@ part-over-start : tie.Need-part-over-start
 part-over-start c = search needs
 
 part-over-end : tie.Need-part-over-end
-part-over-end c = omega (arith, room (c .before .before .before .before .before .before .before .before .before .before .before .before .before .before .args .count) (c .before .before .before .before .before .before .before .before .before .before .before .before .before .before .args .l) (c .before .before .before .before .before .before .before .before .before .before .before .before .before .before .args .l) (c .before .before .before .before .before .before .before .before .before .before .before .if1 .left))
+part-over-end c =
+    let c11 = c .before .before .before .before .before .before .before .before .before .before .before in
+    let c14 = c11 .before .before .before in
+    omega (arith, room (c14 .args .count) (c14 .args .l) (c14 .args .l) (c11 .if1 .left))
 
 over-requires : tie.Need-over-requires
 over-requires c κs = search needs
@@ -71,12 +86,20 @@ same-length-5 c = search needs
 returns-4 : tie.Need-returns-4
 unfolding unit
 returns-4 c =
-    kept (c .before .before .before .before .before .before .before .before .before .before .before .before .before .before .before .before .if1 .left)
-    (rw (← c .before .before .before .before .before .before .before .before .before .before .before .before .before .before .norm .ensures) (c .before .before .before .before .before .before .before .before .before .before .before .before .before .if2 .left))
-    (rw (← c .before .before .before .before .before .before .before .before .before .before .project-out .ensures, ← c .before .before .before .before .before .before .norm2 .ensures, ← c .before .before .before .before .before .before .before .before .before .before .before .before .before .before .norm .ensures) (c .before .before .before .before .before .if3 .left))
-    (c .before .before .before .before .before .before .before .before .before .before .before .before .before .before .before .before .before .before .before .pre .0)
-    (c .before .before .before .before .before .before .before .before .before .before .before .before .before .before .before .before .before .before .before .pre .1)
-    (simp (add-sub-cancel-left, c .before .before .over .ensures, c .before .before .before .before .before .before .norm2 .ensures, c .before .before .before .before .before .before .before .before .before .before .project-out .ensures))
+    let c2 = c .before .before in
+    let c5 = c2 .before .before .before in
+    let c6 = c5 .before in
+    let c10 = c6 .before .before .before .before in
+    let c13 = c10 .before .before .before in
+    let c14 = c13 .before in
+    let c16 = c14 .before .before in
+    let c19 = c16 .before .before .before in
+    kept (c16 .if1 .left)
+    (rw (← c14 .norm .ensures) (c13 .if2 .left))
+    (rw (← c10 .project-out .ensures, ← c6 .norm2 .ensures, ← c14 .norm .ensures) (c5 .if3 .left))
+    (c19 .pre .0)
+    (c19 .pre .1)
+    (simp (add-sub-cancel-left, c2 .over .ensures, c6 .norm2 .ensures, c10 .project-out .ensures))
 
 pub insert-spec : {M : Type 1} → statement M
 insert-spec =

@@ -31,7 +31,9 @@ slice-aggregate-dot : tie.Need-slice-aggregate-dot Inv-loop μ-loop
 slice-aggregate-dot c = sym (length-take-le _ _ (omega (arith, room 0 (c .before .before .before .before .args .count) (c .before .before .before .before .args .l) (omega arith))))
 
 dot-requires : tie.Need-dot-requires Inv-loop μ-loop
-dot-requires c κs = omega (arith, length-take-le (c .before .before .before .before .before .args .l) (c .before .before .before .before .before .args .basis .now) (omega (arith, room 0 (c .before .before .before .before .before .args .count) (c .before .before .before .before .before .args .l) (omega arith))))
+dot-requires c κs =
+    let c5 = c .before .before .before .before .before in
+    omega (arith, length-take-le (c5 .args .l) (c5 .args .basis .now) (omega (arith, room 0 (c5 .args .count) (c5 .args .l) (omega arith))))
 
 loop-holds : tie.Need-loop-holds Inv-loop μ-loop
 unfolding passTo
@@ -52,7 +54,10 @@ add-e : tie.Need-add-e Inv-loop μ-loop
 add-e c = omega (arith, room (c .before .loop .k + 1) (c .before .before .before .before .before .before .before .before .args .count) (c .before .before .before .before .before .before .before .before .args .l) (c .loop-test .taken))
 
 mul-less-then-dot : tie.Need-mul-less-then-dot Inv-loop μ-loop
-mul-less-then-dot c = omega (arith, room (c .before .before .loop .k + 1) (c .before .before .before .before .before .before .before .before .before .args .count) (c .before .before .before .before .before .before .before .before .before .args .l) (c .before .loop-test .taken))
+mul-less-then-dot c =
+    let c2 = c .before .before in
+    let c9 = c2 .before .before .before .before .before .before .before in
+    omega (arith, room (c2 .loop .k + 1) (c9 .args .count) (c9 .args .l) (c .before .loop-test .taken))
 
 sub-less-then-dot : tie.Need-sub-less-then-dot Inv-loop μ-loop
 sub-less-then-dot c = search needs
@@ -61,10 +66,17 @@ part-less-then-dot-start : tie.Need-part-less-then-dot-start Inv-loop μ-loop
 part-less-then-dot-start c = search needs
 
 part-less-then-dot-end : tie.Need-part-less-then-dot-end Inv-loop μ-loop
-part-less-then-dot-end c = omega (arith, room (c .before .before .loop .k + 1) (c .before .before .before .before .before .before .before .before .before .args .count) (c .before .before .before .before .before .before .before .before .before .args .l) (c .before .loop-test .taken))
+part-less-then-dot-end c =
+    let c2 = c .before .before in
+    let c9 = c2 .before .before .before .before .before .before .before in
+    omega (arith, room (c2 .loop .k + 1) (c9 .args .count) (c9 .args .l) (c .before .loop-test .taken))
 
 mul-less-then-dot-2 : tie.Need-mul-less-then-dot-2 Inv-loop μ-loop
-mul-less-then-dot-2 c = omega (arith, room (c .before .before .before .loop .k + 1) (c .before .before .before .before .before .before .before .before .before .before .args .count) (c .before .before .before .before .before .before .before .before .before .before .args .l) (c .before .before .loop-test .taken))
+mul-less-then-dot-2 c =
+    let c2 = c .before .before in
+    let c3 = c2 .before in
+    let c10 = c3 .before .before .before .before .before .before .before in
+    omega (arith, room (c3 .loop .k + 1) (c10 .args .count) (c10 .args .l) (c2 .loop-test .taken))
 
 sub-less-then-dot-2 : tie.Need-sub-less-then-dot-2 Inv-loop μ-loop
 sub-less-then-dot-2 c = search needs
@@ -73,7 +85,11 @@ part-less-then-dot-start-2 : tie.Need-part-less-then-dot-start-2 Inv-loop μ-loo
 part-less-then-dot-start-2 c = search needs
 
 part-less-then-dot-end-2 : tie.Need-part-less-then-dot-end-2 Inv-loop μ-loop
-part-less-then-dot-end-2 c = omega (arith, room (c .before .before .before .loop .k + 1) (c .before .before .before .before .before .before .before .before .before .before .args .count) (c .before .before .before .before .before .before .before .before .before .before .args .l) (c .before .before .loop-test .taken))
+part-less-then-dot-end-2 c =
+    let c2 = c .before .before in
+    let c3 = c2 .before in
+    let c10 = c3 .before .before .before .before .before .before .before in
+    omega (arith, room (c3 .loop .k + 1) (c10 .args .count) (c10 .args .l) (c2 .loop-test .taken))
 
 less-then-dot-requires : tie.Need-less-then-dot-requires Inv-loop μ-loop
 less-then-dot-requires c κs = search needs
@@ -105,7 +121,10 @@ add-e-2 : tie.Need-add-e-2 Inv-loop μ-loop
 add-e-2 c = omega (arith, room (c .before .loop .k) (c .before .before .before .before .before .before .before .before .args .count) (c .before .before .before .before .before .before .before .before .args .l) (c .before .loop .inv .0))
 
 mul-less-scaled : tie.Need-mul-less-scaled Inv-loop μ-loop
-mul-less-scaled c = omega (arith, room (c .before .before .loop .k) (c .before .before .before .before .before .before .before .before .before .args .count) (c .before .before .before .before .before .before .before .before .before .args .l) (c .before .before .loop .inv .0))
+mul-less-scaled c =
+    let c2 = c .before .before in
+    let c9 = c2 .before .before .before .before .before .before .before in
+    omega (arith, room (c2 .loop .k) (c9 .args .count) (c9 .args .l) (c2 .loop .inv .0))
 
 sub-less-scaled : tie.Need-sub-less-scaled Inv-loop μ-loop
 sub-less-scaled c = search needs
@@ -114,7 +133,10 @@ part-less-scaled-start : tie.Need-part-less-scaled-start Inv-loop μ-loop
 part-less-scaled-start c = search needs
 
 part-less-scaled-end : tie.Need-part-less-scaled-end Inv-loop μ-loop
-part-less-scaled-end c = omega (arith, room (c .before .before .loop .k) (c .before .before .before .before .before .before .before .before .before .args .count) (c .before .before .before .before .before .before .before .before .before .args .l) (c .before .before .loop .inv .0))
+part-less-scaled-end c =
+    let c2 = c .before .before in
+    let c9 = c2 .before .before .before .before .before .before .before in
+    omega (arith, room (c2 .loop .k) (c9 .args .count) (c9 .args .l) (c2 .loop .inv .0))
 
 less-scaled-requires : tie.Need-less-scaled-requires Inv-loop μ-loop
 less-scaled-requires c κs = search needs

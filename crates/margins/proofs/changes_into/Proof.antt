@@ -41,16 +41,32 @@ shared-slice-read-delta-2 : tie.Need-shared-slice-read-delta-2 Inv-loop μ-loop
 shared-slice-read-delta-2 c = search needs
 
 mul-a : tie.Need-mul-a Inv-loop μ-loop
-mul-a c = omega (arith, inside (c .before .before .before .before .loop .j) (c .before .before .before .before .before .before .before .before .before .before .before .before .before .args .from) (length (c .before .before .before .before .before .before .before .before .before .before .before .before .before .args .block .now)) (c .before .before .before .before .before .before .before .before .before .before .before .before .before .pre .0) (c .before .before .before .loop-test .taken) (c .before .before .before .before .before .before .before .before .before .before .before .before .before .pre .2), small (c .before .before .before .before .before .before .before .before .before .before .before .before .before .pre .0))
+mul-a c =
+    let c3 = c .before .before .before in
+    let c4 = c3 .before in
+    let c13 = c4 .before .before .before .before .before .before .before .before .before in
+    omega (arith, inside (c4 .loop .j) (c13 .args .from) (length (c13 .args .block .now)) (c13 .pre .0) (c3 .loop-test .taken) (c13 .pre .2), small (c13 .pre .0))
 
 add-a : tie.Need-add-a Inv-loop μ-loop
-add-a c = omega (arith, inside (c .before .before .before .before .loop .j) (c .before .before .before .before .before .before .before .before .before .before .before .before .before .args .from) (length (c .before .before .before .before .before .before .before .before .before .before .before .before .before .args .block .now)) (c .before .before .before .before .before .before .before .before .before .before .before .before .before .pre .0) (c .before .before .before .loop-test .taken) (c .before .before .before .before .before .before .before .before .before .before .before .before .before .pre .2), small (c .before .before .before .before .before .before .before .before .before .before .before .before .before .pre .0))
+add-a c =
+    let c3 = c .before .before .before in
+    let c4 = c3 .before in
+    let c13 = c4 .before .before .before .before .before .before .before .before .before in
+    omega (arith, inside (c4 .loop .j) (c13 .args .from) (length (c13 .args .block .now)) (c13 .pre .0) (c3 .loop-test .taken) (c13 .pre .2), small (c13 .pre .0))
 
 add-e : tie.Need-add-e Inv-loop μ-loop
-add-e c = omega (arith, inside (c .before .before .before .before .loop .j) (c .before .before .before .before .before .before .before .before .before .before .before .before .before .args .from) (length (c .before .before .before .before .before .before .before .before .before .before .before .before .before .args .block .now)) (c .before .before .before .before .before .before .before .before .before .before .before .before .before .pre .0) (c .before .before .before .loop-test .taken) (c .before .before .before .before .before .before .before .before .before .before .before .before .before .pre .2), small (c .before .before .before .before .before .before .before .before .before .before .before .before .before .pre .0))
+add-e c =
+    let c3 = c .before .before .before in
+    let c4 = c3 .before in
+    let c13 = c4 .before .before .before .before .before .before .before .before .before in
+    omega (arith, inside (c4 .loop .j) (c13 .args .from) (length (c13 .args .block .now)) (c13 .pre .0) (c3 .loop-test .taken) (c13 .pre .2), small (c13 .pre .0))
 
 mul-add-scaled : tie.Need-mul-add-scaled Inv-loop μ-loop
-mul-add-scaled c = omega (arith, inside (c .before .before .before .before .before .loop .j) (c .before .before .before .before .before .before .before .before .before .before .before .before .before .before .args .from) (length (c .before .before .before .before .before .before .before .before .before .before .before .before .before .before .args .block .now)) (c .before .before .before .before .before .before .before .before .before .before .before .before .before .before .pre .0) (c .before .before .before .before .loop-test .taken) (c .before .before .before .before .before .before .before .before .before .before .before .before .before .before .pre .2), small (c .before .before .before .before .before .before .before .before .before .before .before .before .before .before .pre .0))
+mul-add-scaled c =
+    let c4 = c .before .before .before .before in
+    let c5 = c4 .before in
+    let c14 = c5 .before .before .before .before .before .before .before .before .before in
+    omega (arith, inside (c5 .loop .j) (c14 .args .from) (length (c14 .args .block .now)) (c14 .pre .0) (c4 .loop-test .taken) (c14 .pre .2), small (c14 .pre .0))
 
 sub-add-scaled : tie.Need-sub-add-scaled Inv-loop μ-loop
 sub-add-scaled c = search needs
@@ -59,7 +75,11 @@ part-add-scaled-start : tie.Need-part-add-scaled-start Inv-loop μ-loop
 part-add-scaled-start c = search needs
 
 part-add-scaled-end : tie.Need-part-add-scaled-end Inv-loop μ-loop
-part-add-scaled-end c = omega (arith, inside (c .before .before .before .before .before .loop .j) (c .before .before .before .before .before .before .before .before .before .before .before .before .before .before .args .from) (length (c .before .before .before .before .before .before .before .before .before .before .before .before .before .before .args .block .now)) (c .before .before .before .before .before .before .before .before .before .before .before .before .before .before .pre .0) (c .before .before .before .before .loop-test .taken) (c .before .before .before .before .before .before .before .before .before .before .before .before .before .before .pre .2), small (c .before .before .before .before .before .before .before .before .before .before .before .before .before .before .pre .0))
+part-add-scaled-end c =
+    let c4 = c .before .before .before .before in
+    let c5 = c4 .before in
+    let c14 = c5 .before .before .before .before .before .before .before .before .before in
+    omega (arith, inside (c5 .loop .j) (c14 .args .from) (length (c14 .args .block .now)) (c14 .pre .0) (c4 .loop-test .taken) (c14 .pre .2), small (c14 .pre .0))
 
 add-scaled-requires : tie.Need-add-scaled-requires Inv-loop μ-loop
 add-scaled-requires c κs = search needs

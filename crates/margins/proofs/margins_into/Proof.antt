@@ -34,16 +34,29 @@ shared-slice-read-w : tie.Need-shared-slice-read-w Inv-loop μ-loop
 shared-slice-read-w c = search needs
 
 mul-a : tie.Need-mul-a Inv-loop μ-loop
-mul-a c = omega (arith, inside (c .before .before .loop .j) (c .before .before .before .before .before .before .before .before .before .before .args .from) (length (c .before .before .before .before .before .before .before .before .before .before .args .block .now)) (c .before .before .before .before .before .before .before .before .before .before .pre .0) (c .before .loop-test .taken) (c .before .before .before .before .before .before .before .before .before .before .pre .1), small (c .before .before .before .before .before .before .before .before .before .before .pre .0))
+mul-a c =
+    let c2 = c .before .before in
+    let c10 = c2 .before .before .before .before .before .before .before .before in
+    omega (arith, inside (c2 .loop .j) (c10 .args .from) (length (c10 .args .block .now)) (c10 .pre .0) (c .before .loop-test .taken) (c10 .pre .1), small (c10 .pre .0))
 
 add-a : tie.Need-add-a Inv-loop μ-loop
-add-a c = omega (arith, inside (c .before .before .loop .j) (c .before .before .before .before .before .before .before .before .before .before .args .from) (length (c .before .before .before .before .before .before .before .before .before .before .args .block .now)) (c .before .before .before .before .before .before .before .before .before .before .pre .0) (c .before .loop-test .taken) (c .before .before .before .before .before .before .before .before .before .before .pre .1), small (c .before .before .before .before .before .before .before .before .before .before .pre .0))
+add-a c =
+    let c2 = c .before .before in
+    let c10 = c2 .before .before .before .before .before .before .before .before in
+    omega (arith, inside (c2 .loop .j) (c10 .args .from) (length (c10 .args .block .now)) (c10 .pre .0) (c .before .loop-test .taken) (c10 .pre .1), small (c10 .pre .0))
 
 add-e : tie.Need-add-e Inv-loop μ-loop
-add-e c = omega (arith, inside (c .before .before .loop .j) (c .before .before .before .before .before .before .before .before .before .before .args .from) (length (c .before .before .before .before .before .before .before .before .before .before .args .block .now)) (c .before .before .before .before .before .before .before .before .before .before .pre .0) (c .before .loop-test .taken) (c .before .before .before .before .before .before .before .before .before .before .pre .1), small (c .before .before .before .before .before .before .before .before .before .before .pre .0))
+add-e c =
+    let c2 = c .before .before in
+    let c10 = c2 .before .before .before .before .before .before .before .before in
+    omega (arith, inside (c2 .loop .j) (c10 .args .from) (length (c10 .args .block .now)) (c10 .pre .0) (c .before .loop-test .taken) (c10 .pre .1), small (c10 .pre .0))
 
 mul-add-scaled : tie.Need-mul-add-scaled Inv-loop μ-loop
-mul-add-scaled c = omega (arith, inside (c .before .before .before .loop .j) (c .before .before .before .before .before .before .before .before .before .before .before .args .from) (length (c .before .before .before .before .before .before .before .before .before .before .before .args .block .now)) (c .before .before .before .before .before .before .before .before .before .before .before .pre .0) (c .before .before .loop-test .taken) (c .before .before .before .before .before .before .before .before .before .before .before .pre .1), small (c .before .before .before .before .before .before .before .before .before .before .before .pre .0))
+mul-add-scaled c =
+    let c2 = c .before .before in
+    let c3 = c2 .before in
+    let c11 = c3 .before .before .before .before .before .before .before .before in
+    omega (arith, inside (c3 .loop .j) (c11 .args .from) (length (c11 .args .block .now)) (c11 .pre .0) (c2 .loop-test .taken) (c11 .pre .1), small (c11 .pre .0))
 
 sub-add-scaled : tie.Need-sub-add-scaled Inv-loop μ-loop
 sub-add-scaled c = search needs
@@ -52,7 +65,11 @@ part-add-scaled-start : tie.Need-part-add-scaled-start Inv-loop μ-loop
 part-add-scaled-start c = search needs
 
 part-add-scaled-end : tie.Need-part-add-scaled-end Inv-loop μ-loop
-part-add-scaled-end c = omega (arith, inside (c .before .before .before .loop .j) (c .before .before .before .before .before .before .before .before .before .before .before .args .from) (length (c .before .before .before .before .before .before .before .before .before .before .before .args .block .now)) (c .before .before .before .before .before .before .before .before .before .before .before .pre .0) (c .before .before .loop-test .taken) (c .before .before .before .before .before .before .before .before .before .before .before .pre .1), small (c .before .before .before .before .before .before .before .before .before .before .before .pre .0))
+part-add-scaled-end c =
+    let c2 = c .before .before in
+    let c3 = c2 .before in
+    let c11 = c3 .before .before .before .before .before .before .before .before in
+    omega (arith, inside (c3 .loop .j) (c11 .args .from) (length (c11 .args .block .now)) (c11 .pre .0) (c2 .loop-test .taken) (c11 .pre .1), small (c11 .pre .0))
 
 add-scaled-requires : tie.Need-add-scaled-requires Inv-loop μ-loop
 add-scaled-requires c κs = search needs

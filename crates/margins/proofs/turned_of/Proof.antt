@@ -35,7 +35,10 @@ slice-aggregate-margins-into : tie.Need-slice-aggregate-margins-into Inv-loop μ
 slice-aggregate-margins-into c = sym (length-take-le _ _ (omega arith))
 
 margins-into-requires : tie.Need-margins-into-requires Inv-loop μ-loop
-margins-into-requires c κs = (c .before .before .before .before .before .before .before .pre .0, rw (length-take-le (c .before .block-length .result) (c .before .before .before .loop .was) (omega arith)) (c .before .block-length .ensures .0))
+margins-into-requires c κs =
+    let c3 = c .before .before .before in
+    let c7 = c3 .before .before .before .before in
+    (c7 .pre .0, rw (length-take-le (c .before .block-length .result) (c3 .loop .was) (omega arith)) (c .before .block-length .ensures .0))
 
 array-borrow-prefix-is : tie.Need-array-borrow-prefix-is Inv-loop μ-loop
 array-borrow-prefix-is c = search needs
@@ -45,29 +48,55 @@ slice-aggregate-margins-into-2 c = sym (length-take-le _ _ (omega arith))
 
 margins-into-requires-2 : tie.Need-margins-into-requires-2 Inv-loop μ-loop
 margins-into-requires-2 c κs =
-    (rw (c .before .before .before .before .before .before .before .before .before .before .pre .1) (c .before .before .before .before .before .before .before .before .before .before .pre .0), rw (length-take-le (c .before .before .before .before .block-length .result) (c .before .before .before .before .before .before .loop .is) (omega arith)) (c .before .before .before .before .block-length .ensures .0))
+    let c4 = c .before .before .before .before in
+    let c6 = c4 .before .before in
+    let c10 = c6 .before .before .before .before in
+    (rw (c10 .pre .1) (c10 .pre .0), rw (length-take-le (c4 .block-length .result) (c6 .loop .is) (omega arith)) (c4 .block-length .ensures .0))
 
 array-share-prefix-was : tie.Need-array-share-prefix-was Inv-loop μ-loop
-array-share-prefix-was c = omega (arith, length-front (c .before .before .before .before .before .before .before .before .loop .was) (c .before .before .before .before .margins-into .last .0) (c .before .before .before .before .before .before .block-length .result) (c .before .before .before .before .margins-into .kept .0))
+array-share-prefix-was c =
+    let c4 = c .before .before .before .before in
+    let c6 = c4 .before .before in
+    let c8 = c6 .before .before in
+    omega (arith, length-front (c8 .loop .was) (c4 .margins-into .last .0) (c6 .block-length .result) (c4 .margins-into .kept .0))
 
 slice-aggregate-count-turned : tie.Need-slice-aggregate-count-turned Inv-loop μ-loop
-slice-aggregate-count-turned c = sym (front-long (c .before .before .before .before .before .before .before .block-length .result) (c .before .before .before .before .before .before .before .before .before .loop .was) (c .before .before .before .before .before .margins-into .last .0) (omega arith) (c .before .before .before .before .before .margins-into .kept .0))
+slice-aggregate-count-turned c =
+    let c5 = c .before .before .before .before .before in
+    let c7 = c5 .before .before in
+    let c9 = c7 .before .before in
+    sym (front-long (c7 .block-length .result) (c9 .loop .was) (c5 .margins-into .last .0) (omega arith) (c5 .margins-into .kept .0))
 
 array-share-prefix-is : tie.Need-array-share-prefix-is Inv-loop μ-loop
-array-share-prefix-is c = omega (arith, length-front (c .before .before .before .before .before .before .before .before .before .loop .is) (c .before .before .margins-into2 .last .0) (c .before .before .before .before .before .before .before .block-length .result) (c .before .before .margins-into2 .kept .0))
+array-share-prefix-is c =
+    let c2 = c .before .before in
+    let c7 = c2 .before .before .before .before .before in
+    let c9 = c7 .before .before in
+    omega (arith, length-front (c9 .loop .is) (c2 .margins-into2 .last .0) (c7 .block-length .result) (c2 .margins-into2 .kept .0))
 
 slice-aggregate-count-turned-2 : tie.Need-slice-aggregate-count-turned-2 Inv-loop μ-loop
-slice-aggregate-count-turned-2 c = sym (front-long (c .before .before .before .before .before .before .before .before .block-length .result) (c .before .before .before .before .before .before .before .before .before .before .loop .is) (c .before .before .before .margins-into2 .last .0) (omega arith) (c .before .before .before .margins-into2 .kept .0))
+slice-aggregate-count-turned-2 c =
+    let c3 = c .before .before .before in
+    let c8 = c3 .before .before .before .before .before in
+    let c10 = c8 .before .before in
+    sym (front-long (c8 .block-length .result) (c10 .loop .is) (c3 .margins-into2 .last .0) (omega arith) (c3 .margins-into2 .kept .0))
 
 count-turned-requires : tie.Need-count-turned-requires Inv-loop μ-loop
 count-turned-requires c κs =
-    front-long (c .before .before .before .before .before .before .before .before .block-length .result) (c .before .before .before .before .before .before .before .before .before .before .loop .is) (c .before .before .before .margins-into2 .last .0) (omega arith) (c .before .before .before .margins-into2 .kept .0)
-    ∙ sym (front-long (c .before .before .before .before .before .before .before .before .block-length .result) (c .before .before .before .before .before .before .before .before .before .before .loop .was) (c .before .before .before .before .before .before .margins-into .last .0) (omega arith) (c .before .before .before .before .before .before .margins-into .kept .0))
+    let c3 = c .before .before .before in
+    let c6 = c3 .before .before .before in
+    let c8 = c6 .before .before in
+    let c10 = c8 .before .before in
+    front-long (c8 .block-length .result) (c10 .loop .is) (c3 .margins-into2 .last .0) (omega arith) (c3 .margins-into2 .kept .0)
+    ∙ sym (front-long (c8 .block-length .result) (c10 .loop .was) (c6 .margins-into .last .0) (omega arith) (c6 .margins-into .kept .0))
 
 add-turned : tie.Need-add-turned Inv-loop μ-loop
 add-turned c =
-    let l = c .before .before .before .before .before .before .before .before .before .before .before .loop in
-    let long = front-long (c .before .before .before .before .before .before .before .before .before .block-length .result) (l .was) (c .before .before .before .before .before .before .before .margins-into .last .0) (omega arith) (c .before .before .before .before .before .before .before .margins-into .kept .0) in
+    let c7 = c .before .before .before .before .before .before .before in
+    let c9 = c7 .before .before in
+    let c11 = c9 .before .before in
+    let l = c11 .loop in
+    let long = front-long (c9 .block-length .result) (l .was) (c7 .margins-into .last .0) (omega arith) (c7 .margins-into .kept .0) in
     omega (arith, long, count-short _ _ (l .turned) (l .inv .3), count-short _ _ (c .count-turned .result) (c .count-turned .ensures))
 
 add-from : tie.Need-add-from Inv-loop μ-loop
@@ -75,16 +104,25 @@ add-from c = search needs
 
 loop-less : tie.Need-loop-less Inv-loop μ-loop
 loop-less c =
-    let k = c .before .before .before .before .before .before .before .before .before .block-length in
-    omega (arith, some-rows (c .before .before .before .before .before .before .before .before .before .before .before .loop .from) (k .result) (c .before .before .before .before .before .before .before .before .before .before .before .before .before .before .before .args .n) (c .before .before .before .before .before .before .before .before .before .before .loop-test .taken) (k .ensures .2) (k .ensures .3))
+    let c9 = c .before .before .before .before .before .before .before .before .before in
+    let c10 = c9 .before in
+    let c11 = c10 .before in
+    let c15 = c11 .before .before .before .before in
+    let k = c9 .block-length in
+    omega (arith, some-rows (c11 .loop .from) (k .result) (c15 .args .n) (c10 .loop-test .taken) (k .ensures .2) (k .ensures .3))
 
 loop-again : tie.Need-loop-again Inv-loop μ-loop
 loop-again c =
-    let a = c .before .before .before .before .before .before .before .before .before .before .before .before .before .before .before .args in
-    let l = c .before .before .before .before .before .before .before .before .before .before .before .loop in
-    let k = c .before .before .before .before .before .before .before .before .before .block-length in
-    let x = c .before .before .before .before .before .before .before .margins-into in
-    let y = c .before .before .before .before .margins-into2 in
+    let c4 = c .before .before .before .before in
+    let c7 = c4 .before .before .before in
+    let c9 = c7 .before .before in
+    let c11 = c9 .before .before in
+    let c15 = c11 .before .before .before .before in
+    let a = c15 .args in
+    let l = c11 .loop in
+    let k = c9 .block-length in
+    let x = c7 .margins-into in
+    let y = c4 .margins-into2 in
     let v : ℕ → Float = marginAt (columnsOf (a .matrix .now) (a .n)) (length (a .before .now)) (a .before .now) in
     let w : ℕ → Float = marginAt (columnsOf (a .matrix .now) (a .n)) (length (a .before .now)) (a .after .now) in (
       omega arith,
@@ -99,7 +137,7 @@ loop-again c =
           _
           _
           (front-back (k .result) (l .was) (x .last .0) (λ i. v (l .from + i)) (omega arith) (x .ensures))
-          (front-back (k .result) (l .is) (y .last .0) (λ i. w (l .from + i)) (omega arith) (rw (c .before .before .before .before .before .before .before .before .before .before .before .before .before .before .before .pre .1) at (y .ensures)))),
+          (front-back (k .result) (l .is) (y .last .0) (λ i. w (l .from + i)) (omega arith) (rw (c15 .pre .1) at (y .ensures)))),
     )
 
 returns : tie.Need-returns Inv-loop μ-loop

@@ -39,12 +39,16 @@ loop-less c = search needs
 
 loop-again : tie.Need-loop-again Inv-loop μ-loop
 loop-again c =
-    let a = c .before .before .before .before .before .before .before .before .before .before .before .before .before .before .before .before .before .before .args in
-    let l = c .before .before .before .before .before .before .before .before .before .before .loop in (
+    let c6 = c .before .before .before .before .before .before in
+    let c9 = c6 .before .before .before in
+    let c10 = c9 .before in
+    let c18 = c10 .before .before .before .before .before .before .before .before in
+    let a = c18 .args in
+    let l = c10 .loop in (
       omega arith,
-      c .before .before .before .before .before .before .sweep .kept .0 ∙ l .inv .1,
-      c .before .before .before .before .before .before .sweep .kept .1 .0 ∙ l .inv .2,
-      l .inv .3 ∙ search-turn (entryOf (a .u .now) (a .n) (a .cols .now) (a .scale .now)) (length (a .cols .now)) (l .k) (l .x) (l .ax) (l .best) _ (c .before .before .before .before .before .before .before .before .before .loop-test .taken) (c .before .before .before .before .before .before .sweep .ensures) (not-false _ (c .if1 .left)),
+      c6 .sweep .kept .0 ∙ l .inv .1,
+      c6 .sweep .kept .1 .0 ∙ l .inv .2,
+      l .inv .3 ∙ search-turn (entryOf (a .u .now) (a .n) (a .cols .now) (a .scale .now)) (length (a .cols .now)) (l .k) (l .x) (l .ax) (l .best) _ (c9 .loop-test .taken) (c6 .sweep .ensures) (not-false _ (c .if1 .left)),
     )
 
 same-length : tie.Need-same-length Inv-loop μ-loop
@@ -67,9 +71,13 @@ same-length-4 c = search needs
 
 returns-2 : tie.Need-returns-2 Inv-loop μ-loop
 returns-2 c =
-    let a = c .before .before .before .before .before .before .before .before .before .before .before .before .before .before .before .before .before .before .args in
-    let l = c .before .before .before .before .before .before .before .before .before .before .loop in
-    sym (l .inv .3 ∙ search-stop (entryOf (a .u .now) (a .n) (a .cols .now) (a .scale .now)) (length (a .cols .now)) (l .k) (l .x) (l .ax) (l .best) _ (c .before .before .before .before .before .before .before .before .before .loop-test .taken) (c .before .before .before .before .before .before .sweep .ensures) (not-true _ (c .if1 .taken)))
+    let c6 = c .before .before .before .before .before .before in
+    let c9 = c6 .before .before .before in
+    let c10 = c9 .before in
+    let c18 = c10 .before .before .before .before .before .before .before .before in
+    let a = c18 .args in
+    let l = c10 .loop in
+    sym (l .inv .3 ∙ search-stop (entryOf (a .u .now) (a .n) (a .cols .now) (a .scale .now)) (length (a .cols .now)) (l .k) (l .x) (l .ax) (l .best) _ (c9 .loop-test .taken) (c6 .sweep .ensures) (not-true _ (c .if1 .taken)))
 
 pub local-search-spec : {M : Type 1} → statement M
 local-search-spec =

@@ -17,7 +17,10 @@ thin-requires : tie.Need-thin-requires
 thin-requires c κs = search needs
 
 put-answer-requires : tie.Need-put-answer-requires
-put-answer-requires c κs = omega (arith, c .before .before .before .before .before .before .before .before .before .before .before .before .before .before .pre .0, c .before .before .before .before .before .before .before .before .before .before .before .before .before .before .pre .4, c .before .before .before .before .before .before .before .before .before .before .before .before .before .before .pre .5, c .before .before .before .before .before .before .thin .kept .1 .1 .1 .1 .1 .0)
+put-answer-requires c κs =
+    let c6 = c .before .before .before .before .before .before in
+    let c14 = c6 .before .before .before .before .before .before .before .before in
+    omega (arith, c14 .pre .0, c14 .pre .4, c14 .pre .5, c6 .thin .kept .1 .1 .1 .1 .1 .0)
 
 same-length : tie.Need-same-length
 same-length c = search needs
@@ -26,7 +29,11 @@ same-length-2 : tie.Need-same-length-2
 same-length-2 c = search needs
 
 returns : tie.Need-returns
-returns c = job-wrote _ _ _ (c .before .before .before .before .before .before .before .before .before .before .before .before .before .before .before .before .before .pre .0) (c .before .before .before .before .before .before .before .before .before .before .before .before .before .before .before .before .before .pre .1) (c .before .before .before .before .before .before .before .before .before .before .before .before .before .before .before .before .before .pre .2) (c .before .before .before .before .before .before .before .before .before .before .before .before .before .before .before .before .before .pre .3) (c .before .before .before .before .before .before .before .before .before .before .before .before .before .before .before .before .before .pre .4) refl refl (c .before .before .before .before .before .before .before .before .before .thin .ensures) (c .before .before .put-answer .ensures)
+returns c =
+    let c2 = c .before .before in
+    let c9 = c2 .before .before .before .before .before .before .before in
+    let c17 = c9 .before .before .before .before .before .before .before .before in
+    job-wrote _ _ _ (c17 .pre .0) (c17 .pre .1) (c17 .pre .2) (c17 .pre .3) (c17 .pre .4) refl refl (c9 .thin .ensures) (c2 .put-answer .ensures)
 
 pub answer-job-spec : {M : Type 1} → statement M
 answer-job-spec =

@@ -19,21 +19,35 @@ same-length : tie.Need-same-length
 same-length c = search needs
 
 returns : tie.Need-returns
-returns c = sheet-bad (c .before .before .before .before .before .before .before .before .before .args .text .now) (c .before .before .before .before .before .before .wrong-line .result) _ _ _ (c .before .before .before .before .before .before .wrong-line .ensures) (c .before .before .before .before .before .if1 .taken) (c .before .before .put-note .ensures)
+returns c =
+    let c2 = c .before .before in
+    let c5 = c2 .before .before .before in
+    let c6 = c5 .before in
+    let c9 = c6 .before .before .before in
+    sheet-bad (c9 .args .text .now) (c6 .wrong-line .result) _ _ _ (c6 .wrong-line .ensures) (c5 .if1 .taken) (c2 .put-note .ensures)
 
 head-of-requires : tie.Need-head-of-requires
 head-of-requires c κs = search needs
 
 answer-sheet-requires : tie.Need-answer-sheet-requires
 answer-sheet-requires c κs =
-    let s = sizes-of (c .before .before .before .before .before .before .args .text .now) (c .head-of .result) (c .before .before .before .wrong-line .result) (c .before .before .before .wrong-line .ensures) (c .before .before .if1 .left) (c .head-of .ensures) in
-    (s .columns, s .rows, omega (arith, s .starts), c .before .before .before .before .before .before .pre)
+    let c2 = c .before .before in
+    let c3 = c2 .before in
+    let c6 = c3 .before .before .before in
+    let s = sizes-of (c6 .args .text .now) (c .head-of .result) (c3 .wrong-line .result) (c3 .wrong-line .ensures) (c2 .if1 .left) (c .head-of .ensures) in
+    (s .columns, s .rows, omega (arith, s .starts), c6 .pre)
 
 same-length-2 : tie.Need-same-length-2
 same-length-2 c = search needs
 
 returns-2 : tie.Need-returns-2
-returns-2 c = sheet-good (c .before .before .before .before .before .before .before .before .before .args .text .now) (c .before .before .before .before .before .before .wrong-line .result) (c .before .before .before .head-of .result) _ _ _ (c .before .before .before .before .before .before .wrong-line .ensures) (c .before .before .before .before .before .if1 .left) (c .before .before .before .head-of .ensures) (c .before .before .answer-sheet .ensures)
+returns-2 c =
+    let c2 = c .before .before in
+    let c3 = c2 .before in
+    let c5 = c3 .before .before in
+    let c6 = c5 .before in
+    let c9 = c6 .before .before .before in
+    sheet-good (c9 .args .text .now) (c6 .wrong-line .result) (c3 .head-of .result) _ _ _ (c6 .wrong-line .ensures) (c5 .if1 .left) (c3 .head-of .ensures) (c2 .answer-sheet .ensures)
 
 pub answer-text-spec : {M : Type 1} → statement M
 answer-text-spec =

@@ -14,7 +14,10 @@ answer-text-requires : tie.Need-answer-text-requires
 answer-text-requires c κs = search needs
 
 returns : tie.Need-returns
-returns c = does-not-fit (c .before .before .before .before .before .before .args .text .now) (c .before .before .before .before .before .before .args .answer .now) _ (c .before .before .answer-text .result) (c .before .before .answer-text .last .0) (c .before .before .answer-text .ensures) (c .if1 .taken)
+returns c =
+    let c2 = c .before .before in
+    let c6 = c2 .before .before .before .before in
+    does-not-fit (c6 .args .text .now) (c6 .args .answer .now) _ (c2 .answer-text .result) (c2 .answer-text .last .0) (c2 .answer-text .ensures) (c .if1 .taken)
 
 slice-relend-prefix-copy-bytes : tie.Need-slice-relend-prefix-copy-bytes
 slice-relend-prefix-copy-bytes c = search needs
@@ -35,7 +38,12 @@ same-length : tie.Need-same-length
 same-length c = search needs
 
 returns-2 : tie.Need-returns-2
-returns-2 c = does-fit (c .before .before .before .before .before .before .before .before .before .before .before .args .text .now) (c .before .before .before .before .before .before .before .before .before .before .before .args .answer .now) _ (c .before .before .before .before .before .before .before .answer-text .result) (c .before .before .before .before .before .before .before .answer-text .last .0) (c .before .before .copy-bytes .last .0) _ (c .before .before .before .before .before .before .before .answer-text .ensures) (c .before .before .before .before .before .if1 .left) (c .before .before .copy-bytes .ensures) refl
+returns-2 c =
+    let c2 = c .before .before in
+    let c5 = c2 .before .before .before in
+    let c7 = c5 .before .before in
+    let c11 = c7 .before .before .before .before in
+    does-fit (c11 .args .text .now) (c11 .args .answer .now) _ (c7 .answer-text .result) (c7 .answer-text .last .0) (c2 .copy-bytes .last .0) _ (c7 .answer-text .ensures) (c5 .if1 .left) (c2 .copy-bytes .ensures) refl
 
 pub thin-sheet-spec : {M : Type 1} → statement M
 thin-sheet-spec =

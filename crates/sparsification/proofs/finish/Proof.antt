@@ -18,7 +18,11 @@ same-length : tie.Need-same-length
 same-length c = search needs
 
 returns : tie.Need-returns
-returns c = (answer-is (columnsOf (c .before .before .before .before .before .before .before .before .before .before .args .matrix .now) (c .before .before .before .before .before .before .before .before .before .before .args .n)) (c .before .before .before .before .before .before .before .before .before .before .args .n) (c .before .before .before .before .before .before .before .before .before .before .args .start .now) (c .before .before .before .before .before .before .before .before .before .before .args .stage) (c .before .before .before .before .before .before .before .before .before .before .args .w .now) (c .before .count-nonzeros .result) (c .change-of .result) (c .before .count-nonzeros .ensures) (c .change-of .ensures), c .before .before .before .before .copy .ensures)
+returns c =
+    let c4 = c .before .before .before .before in
+    let c4 = c4 in
+    let c10 = c4 .before .before .before .before .before .before in
+    (answer-is (columnsOf (c10 .args .matrix .now) (c10 .args .n)) (c10 .args .n) (c10 .args .start .now) (c10 .args .stage) (c10 .args .w .now) (c .before .count-nonzeros .result) (c .change-of .result) (c .before .count-nonzeros .ensures) (c .change-of .ensures), c4 .copy .ensures)
 
 pub finish-spec : {M : Type 1} → statement M
 finish-spec =

@@ -31,9 +31,12 @@ slice-aggregate-thin-on-2 c = sym (length-take-le _ _ (omega (arith, c .before .
 
 thin-on-requires : tie.Need-thin-on-requires
 thin-on-requires c κs =
-    let v = c .before .before .before .before .before .before .before .before .before .before .before .before .before .before .before .before .before .before .before .before .pre in
-    let normal = normal-of (c .before .before .before .before .before .before .before .before .before .before .before .before .before .before .before .before .before .before .before .before .args .weights .now) _ _ (c .before .before .before .before .before .before .before .before .normalize .result) (c .before .before .before .before .before .before .before .before .before .before .before .before .copy .ensures) (c .before .before .before .before .before .before .before .before .normalize .ensures .0) (c .before .before .before .before .before .before .before .before .normalize .ensures .1) (v .1) in
-    let long = ap length normal ∙ length-normalized plusZero (c .before .before .before .before .before .before .before .before .before .before .before .before .before .before .before .before .before .before .before .before .args .weights .now) in
+    let c8 = c .before .before .before .before .before .before .before .before in
+    let c12 = c8 .before .before .before .before in
+    let c20 = c12 .before .before .before .before .before .before .before .before in
+    let v = c20 .pre in
+    let normal = normal-of (c20 .args .weights .now) _ _ (c8 .normalize .result) (c12 .copy .ensures) (c8 .normalize .ensures .0) (c8 .normalize .ensures .1) (v .1) in
+    let long = ap length normal ∙ length-normalized plusZero (c20 .args .weights .now) in
     (ready-still (v .0) long refl refl, length-take-le _ _ (omega (arith, v .0 .few)) ∙ sym long, length-take-le _ _ (omega (arith, v .0 .few)) ∙ sym long, v .3 ∙ sym long, v .4)
 
 same-length : tie.Need-same-length
@@ -50,9 +53,13 @@ same-length-4 c = search needs
 
 returns : tie.Need-returns
 returns c =
-    let v = c .before .before .before .before .before .before .before .before .before .before .before .before .before .before .before .before .before .before .before .before .before .before .before .before .before .before .before .before .before .pre in
-    let normal = normal-of (c .before .before .before .before .before .before .before .before .before .before .before .before .before .before .before .before .before .before .before .before .before .before .before .before .before .before .before .before .before .args .weights .now) _ _ (c .before .before .before .before .before .before .before .before .before .before .before .before .before .before .before .before .before .normalize .result) (c .before .before .before .before .before .before .before .before .before .before .before .before .before .before .before .before .before .before .before .before .before .copy .ensures) (c .before .before .before .before .before .before .before .before .before .before .before .before .before .before .before .before .before .normalize .ensures .0) (c .before .before .before .before .before .before .before .before .before .before .before .before .before .before .before .before .before .normalize .ensures .1) (v .1) in
-    rw (← normal) (c .before .before .before .before .before .before .before .before .thin-on .ensures)
+    let c8 = c .before .before .before .before .before .before .before .before in
+    let c17 = c8 .before .before .before .before .before .before .before .before .before in
+    let c21 = c17 .before .before .before .before in
+    let c29 = c21 .before .before .before .before .before .before .before .before in
+    let v = c29 .pre in
+    let normal = normal-of (c29 .args .weights .now) _ _ (c17 .normalize .result) (c21 .copy .ensures) (c17 .normalize .ensures .0) (c17 .normalize .ensures .1) (v .1) in
+    rw (← normal) (c8 .thin-on .ensures)
 
 pub thin-sound-spec : {M : Type 1} → statement M
 thin-sound-spec =

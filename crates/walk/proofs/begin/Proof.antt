@@ -74,15 +74,19 @@ slice-aggregate-block-first c = pushed-long (c .before .before .before .before .
 
 block-first-requires : tie.Need-block-first-requires
 block-first-requires c κs =
-    let a = c .before .before .before .before .before .before .before .before .before .before .before .before .before .before .before .before .before .before .before .before .before .before .before .before .args in
-    let p = c .before .before .before .before .before .before .before .before .before .before .before .before .before .before .before .before .before .before .before .before .before .before .before .before .pre in
+    let c6 = c .before .before .before .before .before .before in
+    let c9 = c6 .before .before .before in
+    let c16 = c9 .before .before .before .before .before .before .before in
+    let c24 = c16 .before .before .before .before .before .before .before .before in
+    let a = c24 .args in
+    let p = c24 .pre in
     let r = length (a .blocked .now) in
     let e = entryOf (a .u .now) (a .n) (a .cols .now) (a .scale .now) in
     let l = length (a .cols .now) in
-    let lb = c .before .before .before .before .before .before .clear-words .kept .0 in
-    let ln = normed-long e l r (r + r + r - (r + r)) (r - 0) (l / 4) (c .before .before .before .before .before .before .before .before .before .first-rows .result) (a .num .now) (c .before .before .before .before .before .before .before .before .before .before .before .before .before .before .before .before .norms-into .last .0) _ (c .before .before .before .before .before .before .before .before .before .first-rows .last .0) [] (omega arith) (omega arith) refl (omega (arith, p .2)) (omega (arith, p .0 .few)) (c .before .before .before .before .before .before .before .before .before .before .before .before .before .before .before .before .norms-into .ensures) (c .before .before .before .before .before .before .before .before .before .first-rows .ensures) in (
-      (rw lb (p .0), p .1, rw lb (omega (arith, ln, p .2)), c .before .before .before .before .before .before .clear-words .ensures ∙ ap (repeated 0) (sym lb)),
-      rw lb (first-rows-below e l r (r + r + r - (r + r)) (r - 0) (l / 4) (c .before .before .before .before .before .before .before .before .before .first-rows .result) (a .num .now) (c .before .before .before .before .before .before .before .before .before .before .before .before .before .before .before .before .norms-into .last .0) _ (c .before .before .before .before .before .before .before .before .before .first-rows .last .0) _ (omega arith) (omega arith) refl (omega (arith, p .2)) (omega (arith, p .0 .few)) (c .before .before .before .before .before .before .before .before .before .before .before .before .before .before .before .before .norms-into .ensures) (c .before .before .before .before .before .before .before .before .before .first-rows .ensures)),
+    let lb = c6 .clear-words .kept .0 in
+    let ln = normed-long e l r (r + r + r - (r + r)) (r - 0) (l / 4) (c9 .first-rows .result) (a .num .now) (c16 .norms-into .last .0) _ (c9 .first-rows .last .0) [] (omega arith) (omega arith) refl (omega (arith, p .2)) (omega (arith, p .0 .few)) (c16 .norms-into .ensures) (c9 .first-rows .ensures) in (
+      (rw lb (p .0), p .1, rw lb (omega (arith, ln, p .2)), c6 .clear-words .ensures ∙ ap (repeated 0) (sym lb)),
+      rw lb (first-rows-below e l r (r + r + r - (r + r)) (r - 0) (l / 4) (c9 .first-rows .result) (a .num .now) (c16 .norms-into .last .0) _ (c9 .first-rows .last .0) _ (omega arith) (omega arith) refl (omega (arith, p .2)) (omega (arith, p .0 .few)) (c16 .norms-into .ensures) (c9 .first-rows .ensures)),
     )
 
 same-length : tie.Need-same-length
@@ -96,13 +100,18 @@ same-length-3 c = search needs
 
 returns : tie.Need-returns
 returns c =
-    let a = c .before .before .before .before .before .before .before .before .before .before .before .before .before .before .before .before .before .before .before .before .before .before .before .before .before .before .before .before .before .before .before .args in
-    let p = c .before .before .before .before .before .before .before .before .before .before .before .before .before .before .before .before .before .before .before .before .before .before .before .before .before .before .before .before .before .before .before .pre in
+    let c6 = c .before .before .before .before .before .before in
+    let c13 = c6 .before .before .before .before .before .before .before in
+    let c16 = c13 .before .before .before in
+    let c23 = c16 .before .before .before .before .before .before .before in
+    let c31 = c23 .before .before .before .before .before .before .before .before in
+    let a = c31 .args in
+    let p = c31 .pre in
     let r = length (a .blocked .now) in
     let e = entryOf (a .u .now) (a .n) (a .cols .now) (a .scale .now) in
     let l = length (a .cols .now) in
-    begun-is e l r (r + r + r - (r + r)) (r - 0) (l / 4) (c .before .before .before .before .before .before .before .before .before .before .before .before .before .before .before .before .first-rows .result) (a .num .now) (c .before .before .before .before .before .before .before .before .before .before .before .before .before .before .before .before .before .before .before .before .before .before .before .norms-into .last .0) _ (c .before .before .before .before .before .before .before .before .before .before .before .before .before .before .before .before .first-rows .last .0) _ (omega arith) (omega arith) refl (omega (arith, p .2)) (omega (arith, p .0 .few)) (c .before .before .before .before .before .before .before .before .before .before .before .before .before .before .before .before .before .before .before .before .before .before .before .norms-into .ensures) (c .before .before .before .before .before .before .before .before .before .before .before .before .before .before .before .before .first-rows .ensures)
-    (c .before .before .before .before .before .before .block-first .result) (c .before .before .before .before .before .before .block-first .last .0) (c .before .before .before .before .before .before .block-first .last .1 .0) (rw (c .before .before .before .before .before .before .before .before .before .before .before .before .before .clear-words .kept .0) at (c .before .before .before .before .before .before .block-first .ensures))
+    begun-is e l r (r + r + r - (r + r)) (r - 0) (l / 4) (c16 .first-rows .result) (a .num .now) (c23 .norms-into .last .0) _ (c16 .first-rows .last .0) _ (omega arith) (omega arith) refl (omega (arith, p .2)) (omega (arith, p .0 .few)) (c23 .norms-into .ensures) (c16 .first-rows .ensures)
+    (c6 .block-first .result) (c6 .block-first .last .0) (c6 .block-first .last .1 .0) (rw (c13 .clear-words .kept .0) at (c6 .block-first .ensures))
 
 pub begin-spec : {M : Type 1} → statement M
 begin-spec =

@@ -71,10 +71,14 @@ loop-less c = search needs
 
 loop-again : tie.Need-loop-again Inv-loop μ-loop
 loop-again c =
-    let a = c .before .before .before .before .before .before .before .before .before .before .before .before .before .before .before .before .before .args in
-    let s = c .before .before .before .before .before .before .before .before .before .loop in
+    let c4 = c .before .before .before .before in
+    let c8 = c4 .before .before .before .before in
+    let c9 = c8 .before in
+    let c17 = c9 .before .before .before .before .before .before .before .before in
+    let a = c17 .args in
+    let s = c9 .loop in
     blocking-turn (entryOf (a .u .now) (a .n) (a .cols .now) (a .scale .now)) (length (a .cols .now)) (a .first .now) (a .num .now) (length (a .blocked .now)) (a .v .now) (s .num) (s .blocked) (s .v) (s .count) (s .k) (s .inv)
-    (c .before .before .before .before .block-row .result) (c .before .before .before .before .block-row .last .0) (c .before .before .before .before .block-row .last .1 .1 .1 .1 .1 .1 .1 .0) (c .before .before .before .before .before .before .before .before .loop-test .taken) (omega arith) (c .before .before .before .before .block-row .kept .0) (c .before .before .before .before .block-row .kept .1 .1 .1 .1 .1 .1 .1 .0) (c .before .before .before .before .block-row .ensures)
+    (c4 .block-row .result) (c4 .block-row .last .0) (c4 .block-row .last .1 .1 .1 .1 .1 .1 .1 .0) (c8 .loop-test .taken) (omega arith) (c4 .block-row .kept .0) (c4 .block-row .kept .1 .1 .1 .1 .1 .1 .1 .0) (c4 .block-row .ensures)
 
 same-length : tie.Need-same-length Inv-loop μ-loop
 same-length c = search needs
@@ -87,7 +91,8 @@ same-length-3 c = search needs
 
 returns : tie.Need-returns Inv-loop μ-loop
 returns c =
-    let a = c .before .before .before .before .before .before .before .before .before .args in
+    let c9 = c .before .before .before .before .before .before .before .before .before in
+    let a = c9 .args in
     let s = c .before .loop in
     blocking-end (entryOf (a .u .now) (a .n) (a .cols .now) (a .scale .now)) (length (a .cols .now)) (a .first .now) (a .num .now) (length (a .blocked .now)) (a .v .now) (s .num) (s .blocked) (s .v) (s .count) (s .k) (s .inv) (c .loop-test .left)
 

@@ -28,19 +28,30 @@ array-borrow-prefix-g : tie.Need-array-borrow-prefix-g
 array-borrow-prefix-g c = search needs
 
 slice-aggregate-steps : tie.Need-slice-aggregate-steps
-slice-aggregate-steps c = sym (length-take-le _ _ (omega (arith, c .before .before .before .before .before .before .before .before .before .before .before .before .before .before .before .before .before .before .before .before .before .before .before .before .before .pre .0 .few)))
+slice-aggregate-steps c =
+    let c25 = c .before .before .before .before .before .before .before .before .before .before .before .before .before .before .before .before .before .before .before .before .before .before .before .before .before in
+    sym (length-take-le _ _ (omega (arith, c25 .pre .0 .few)))
 
 array-borrow-prefix-v-2 : tie.Need-array-borrow-prefix-v-2
-array-borrow-prefix-v-2 c = front-back _ (c .before .before .before .before .before .before .before .before .before .before .begin .last .1 .1 .1 .1 .1 .1 .0) _ (c .before .before .before .before .before .before .before .before .before .before .begin .kept .1 .1 .1 .1 .1 .1 .0) (omega (arith, c .before .before .before .before .before .before .before .before .before .before .before .before .before .before .before .before .before .before .before .before .before .before .before .before .before .pre .0 .few))
+array-borrow-prefix-v-2 c =
+    let c10 = c .before .before .before .before .before .before .before .before .before .before in
+    let c25 = c10 .before .before .before .before .before .before .before .before .before .before .before .before .before .before .before in
+    front-back _ (c10 .begin .last .1 .1 .1 .1 .1 .1 .0) _ (c10 .begin .kept .1 .1 .1 .1 .1 .1 .0) (omega (arith, c25 .pre .0 .few))
 
 slice-aggregate-steps-2 : tie.Need-slice-aggregate-steps-2
-slice-aggregate-steps-2 c = sym (length-take-le _ _ (front-back _ (c .before .before .before .before .before .before .before .before .before .before .before .begin .last .1 .1 .1 .1 .1 .1 .0) _ (c .before .before .before .before .before .before .before .before .before .before .before .begin .kept .1 .1 .1 .1 .1 .1 .0) (omega (arith, c .before .before .before .before .before .before .before .before .before .before .before .before .before .before .before .before .before .before .before .before .before .before .before .before .before .before .pre .0 .few))))
+slice-aggregate-steps-2 c =
+    let c11 = c .before .before .before .before .before .before .before .before .before .before .before in
+    let c26 = c11 .before .before .before .before .before .before .before .before .before .before .before .before .before .before .before in
+    sym (length-take-le _ _ (front-back _ (c11 .begin .last .1 .1 .1 .1 .1 .1 .0) _ (c11 .begin .kept .1 .1 .1 .1 .1 .1 .0) (omega (arith, c26 .pre .0 .few))))
 
 steps-requires : tie.Need-steps-requires
 steps-requires c κs =
-    let a = c .before .before .before .before .before .before .before .before .before .before .before .before .before .before .before .before .before .before .before .before .before .before .before .before .before .before .args in
-    let p = c .before .before .before .before .before .before .before .before .before .before .before .before .before .before .before .before .before .before .before .before .before .before .before .before .before .before .pre in
-    (rw (c .before .before .before .before .before .before .before .before .before .before .before .begin .kept .1 .0) (p .0), start-room (entryOf (a .u .now) (a .n) (a .cols .now) (a .scale .now)) (length (a .cols .now)) (a .num .now) (a .blocked .now) (a .x .now) (a .free .now) (c .before .before .before .before .before .before .before .before .before .before .before .begin .last .0) (c .before .before .before .before .before .before .before .before .before .before .before .begin .last .1 .0) (c .before .before .before .before .before .before .before .before .before .before .before .before .before .before .before .before .before .fill-words .last .0) (c .before .before .before .before .before .before .before .before .before .before .before .begin .result) (p .1) (c .before .before .before .before .before .before .before .before .before .before .before .begin .ensures) (c .before .before .before .before .before .before .before .before .before .before .before .begin .kept .0) (c .before .before .before .before .before .before .before .before .before .before .before .begin .kept .1 .0) (c .before .before .before .before .before .before .before .before .before .before .before .before .before .before .before .before .before .fill-words .ensures), length-take-le _ _ (omega (arith, p .0 .few)), length-take-le _ _ (front-back _ (c .before .before .before .before .before .before .before .before .before .before .before .begin .last .1 .1 .1 .1 .1 .1 .0) _ (c .before .before .before .before .before .before .before .before .before .before .before .begin .kept .1 .1 .1 .1 .1 .1 .0) (omega (arith, p .0 .few))), refl)
+    let c11 = c .before .before .before .before .before .before .before .before .before .before .before in
+    let c17 = c11 .before .before .before .before .before .before in
+    let c26 = c17 .before .before .before .before .before .before .before .before .before in
+    let a = c26 .args in
+    let p = c26 .pre in
+    (rw (c11 .begin .kept .1 .0) (p .0), start-room (entryOf (a .u .now) (a .n) (a .cols .now) (a .scale .now)) (length (a .cols .now)) (a .num .now) (a .blocked .now) (a .x .now) (a .free .now) (c11 .begin .last .0) (c11 .begin .last .1 .0) (c17 .fill-words .last .0) (c11 .begin .result) (p .1) (c11 .begin .ensures) (c11 .begin .kept .0) (c11 .begin .kept .1 .0) (c17 .fill-words .ensures), length-take-le _ _ (omega (arith, p .0 .few)), length-take-le _ _ (front-back _ (c11 .begin .last .1 .1 .1 .1 .1 .1 .0) _ (c11 .begin .kept .1 .1 .1 .1 .1 .1 .0) (omega (arith, p .0 .few))), refl)
 
 same-length : tie.Need-same-length
 same-length c = search needs
@@ -56,9 +67,13 @@ same-length-4 c = search needs
 
 returns : tie.Need-returns
 returns c =
-    let a = c .before .before .before .before .before .before .before .before .before .before .before .before .before .before .before .before .before .before .before .before .before .before .before .before .before .before .before .before .before .before .before .before .before .before .before .before .before .args in
-    let p = c .before .before .before .before .before .before .before .before .before .before .before .before .before .before .before .before .before .before .before .before .before .before .before .before .before .before .before .before .before .before .before .before .before .before .before .before .before .pre in
-    phase-is (entryOf (a .u .now) (a .n) (a .cols .now) (a .scale .now)) (length (a .cols .now)) (a .num .now) (a .blocked .now) (a .x .now) (a .free .now) (c .before .before .before .before .before .before .before .before .before .before .before .before .before .before .before .before .before .before .before .before .before .before .begin .last .0) (c .before .before .before .before .before .before .before .before .before .before .before .before .before .before .before .before .before .before .before .before .before .before .begin .last .1 .0) (c .before .before .before .before .before .before .before .before .before .before .before .before .before .before .before .before .before .before .before .before .before .before .before .before .before .before .before .before .fill-words .last .0) (c .before .before .before .before .before .before .before .before .before .before .before .before .before .before .before .before .before .before .before .before .before .before .begin .result) (p .1) (c .before .before .before .before .before .before .before .before .before .before .before .before .before .before .before .before .before .before .before .before .before .before .begin .ensures) (c .before .before .before .before .before .before .before .before .before .before .before .before .before .before .before .before .before .before .before .before .before .before .begin .kept .0) (c .before .before .before .before .before .before .before .before .before .before .before .before .before .before .before .before .before .before .before .before .before .before .begin .kept .1 .0) (c .before .before .before .before .before .before .before .before .before .before .before .before .before .before .before .before .before .before .before .before .before .before .before .before .before .before .before .before .fill-words .ensures) _ (a .rng .state) (c .before .before .before .before .before .before .before .before .before .before .steps .ensures)
+    let c10 = c .before .before .before .before .before .before .before .before .before .before in
+    let c22 = c10 .before .before .before .before .before .before .before .before .before .before .before .before in
+    let c28 = c22 .before .before .before .before .before .before in
+    let c37 = c28 .before .before .before .before .before .before .before .before .before in
+    let a = c37 .args in
+    let p = c37 .pre in
+    phase-is (entryOf (a .u .now) (a .n) (a .cols .now) (a .scale .now)) (length (a .cols .now)) (a .num .now) (a .blocked .now) (a .x .now) (a .free .now) (c22 .begin .last .0) (c22 .begin .last .1 .0) (c28 .fill-words .last .0) (c22 .begin .result) (p .1) (c22 .begin .ensures) (c22 .begin .kept .0) (c22 .begin .kept .1 .0) (c28 .fill-words .ensures) _ (a .rng .state) (c10 .steps .ensures)
 
 pub phase-spec : {M : Type 1} → statement M
 phase-spec =

@@ -17,10 +17,14 @@ add-base-2 : tie.Need-add-base-2
 add-base-2 c = search needs
 
 mul-end : tie.Need-mul-end
-mul-end c = omega (arith, vectors-room (length (c .before .before .before .before .before .before .before .before .before .args .cols .now)) (c .before .before .before .before .before .before .before .before .before .args .num .now) (c .before .before .before .before .before .before .before .before .before .args .blocked .now) (c .before .before .before .before .before .before .before .before .before .args .x .now) (c .before .before .before .before .before .before .before .before .before .args .free .now) (c .before .before .before .before .before .before .before .before .before .args .from .count) (c .before .before .before .before .before .before .before .before .before .pre .1))
+mul-end c =
+    let c9 = c .before .before .before .before .before .before .before .before .before in
+    omega (arith, vectors-room (length (c9 .args .cols .now)) (c9 .args .num .now) (c9 .args .blocked .now) (c9 .args .x .now) (c9 .args .free .now) (c9 .args .from .count) (c9 .pre .1))
 
 add-end : tie.Need-add-end
-add-end c = omega (arith, vectors-room (length (c .before .before .before .before .before .before .before .before .before .args .cols .now)) (c .before .before .before .before .before .before .before .before .before .args .num .now) (c .before .before .before .before .before .before .before .before .before .args .blocked .now) (c .before .before .before .before .before .before .before .before .before .args .x .now) (c .before .before .before .before .before .before .before .before .before .args .free .now) (c .before .before .before .before .before .before .before .before .before .args .from .count) (c .before .before .before .before .before .before .before .before .before .pre .1))
+add-end c =
+    let c9 = c .before .before .before .before .before .before .before .before .before in
+    omega (arith, vectors-room (length (c9 .args .cols .now)) (c9 .args .num .now) (c9 .args .blocked .now) (c9 .args .x .now) (c9 .args .free .now) (c9 .args .from .count) (c9 .pre .1))
 
 draw-into-requires : tie.Need-draw-into-requires
 draw-into-requires c κs = search needs
@@ -35,7 +39,9 @@ part-direct-start : tie.Need-part-direct-start
 part-direct-start c = search needs
 
 part-direct-end : tie.Need-part-direct-end
-part-direct-end c = omega (arith, vectors-room (length (c .before .before .before .before .before .before .before .before .before .before .before .before .before .before .args .cols .now)) (c .before .before .before .before .before .before .before .before .before .before .before .before .before .before .args .num .now) (c .before .before .before .before .before .before .before .before .before .before .before .before .before .before .args .blocked .now) (c .before .before .before .before .before .before .before .before .before .before .before .before .before .before .args .x .now) (c .before .before .before .before .before .before .before .before .before .before .before .before .before .before .args .free .now) (c .before .before .before .before .before .before .before .before .before .before .before .before .before .before .args .from .count) (c .before .before .before .before .before .before .before .before .before .before .before .before .before .before .pre .1))
+part-direct-end c =
+    let c14 = c .before .before .before .before .before .before .before .before .before .before .before .before .before .before in
+    omega (arith, vectors-room (length (c14 .args .cols .now)) (c14 .args .num .now) (c14 .args .blocked .now) (c14 .args .x .now) (c14 .args .free .now) (c14 .args .from .count) (c14 .pre .1))
 
 direct-requires : tie.Need-direct-requires
 direct-requires c κs = search needs
@@ -51,18 +57,24 @@ same-length-3 c = search needs
 
 returns : tie.Need-returns
 returns c =
-    let a = c .before .before .before .before .before .before .before .before .before .before .before .before .before .before .before .before .before .before .before .before .before .args in
-    let p = c .before .before .before .before .before .before .before .before .before .before .before .before .before .before .before .before .before .before .before .before .before .pre in
+    let c3 = c .before .before .before in
+    let c10 = c3 .before .before .before .before .before .before .before in
+    let c21 = c10 .before .before .before .before .before .before .before .before .before .before .before in
+    let a = c21 .args in
+    let p = c21 .pre in
     let l = length (a .cols .now) in
     let r = length (a .blocked .now) in
     let m = a .from .count * l in
     let e = entryOf (a .u .now) (a .n) (a .cols .now) (a .scale .now) in
-    stops-short e l (a .num .now) (a .blocked .now) (a .x .now) (a .free .now) (a .from .count) (a .from .frozen) (a .from .rng .state) (r + r + r + m - (r + r + r)) (a .g .now) (c .before .before .before .before .before .before .before .before .before .before .draw-into .last .0) (c .before .before .before .direct .last .1 .1 .1 .1 .0) (c .before .before .before .direct .result) (p .1) (omega arith) (p .2) (c .before .before .before .before .before .before .before .before .before .before .draw-into .ensures .0) (c .before .before .before .direct .ensures .0) (c .before .before .before .direct .ensures .1) _ (c .if1 .taken) refl refl refl (c .before .before .before .before .before .before .before .before .before .before .draw-into .ensures .1)
+    stops-short e l (a .num .now) (a .blocked .now) (a .x .now) (a .free .now) (a .from .count) (a .from .frozen) (a .from .rng .state) (r + r + r + m - (r + r + r)) (a .g .now) (c10 .draw-into .last .0) (c3 .direct .last .1 .1 .1 .1 .0) (c3 .direct .result) (p .1) (omega arith) (p .2) (c10 .draw-into .ensures .0) (c3 .direct .ensures .0) (c3 .direct .ensures .1) _ (c .if1 .taken) refl refl refl (c10 .draw-into .ensures .1)
 
 advance-requires : tie.Need-advance-requires
 advance-requires c κs =
-    let p = c .before .before .before .before .before .before .before .before .before .before .before .before .before .before .before .before .before .before .before .before .before .before .before .before .before .pre in
-    (p .0, c .before .before .before .before .before .before .before .direct .kept .1 .1 .1 .1 .0 ∙ c .before .before .before .before .before .before .before .before .before .before .before .before .before .before .draw-into .kept .0 ∙ p .2, p .1 .wide, p .1 .marks, omega (arith, p .1 .room))
+    let c7 = c .before .before .before .before .before .before .before in
+    let c14 = c7 .before .before .before .before .before .before .before in
+    let c25 = c14 .before .before .before .before .before .before .before .before .before .before .before in
+    let p = c25 .pre in
+    (p .0, c7 .direct .kept .1 .1 .1 .1 .0 ∙ c14 .draw-into .kept .0 ∙ p .2, p .1 .wide, p .1 .marks, omega (arith, p .1 .room))
 
 same-length-4 : tie.Need-same-length-4
 same-length-4 c = search needs
@@ -78,18 +90,25 @@ same-length-7 c = search needs
 
 returns-2 : tie.Need-returns-2
 returns-2 c =
-    let a = c .before .before .before .before .before .before .before .before .before .before .before .before .before .before .before .before .before .before .before .before .before .before .before .before .before .before .before .before .before .before .before .before .before .args in
-    let p = c .before .before .before .before .before .before .before .before .before .before .before .before .before .before .before .before .before .before .before .before .before .before .before .before .before .before .before .before .before .before .before .before .before .pre in
+    let c7 = c .before .before .before .before .before .before .before in
+    let c12 = c7 .before .before .before .before .before in
+    let c15 = c12 .before .before .before in
+    let c22 = c15 .before .before .before .before .before .before .before in
+    let c33 = c22 .before .before .before .before .before .before .before .before .before .before .before in
+    let a = c33 .args in
+    let p = c33 .pre in
     let l = length (a .cols .now) in
     let r = length (a .blocked .now) in
     let m = a .from .count * l in
     let e = entryOf (a .u .now) (a .n) (a .cols .now) (a .scale .now) in
-    stops-nowhere e l (a .num .now) (a .blocked .now) (a .x .now) (a .free .now) (a .from .count) (a .from .frozen) (a .from .rng .state) (r + r + r + m - (r + r + r)) (a .g .now) (c .before .before .before .before .before .before .before .before .before .before .before .before .before .before .before .before .before .before .before .before .before .before .draw-into .last .0) (c .before .before .before .before .before .before .before .before .before .before .before .before .before .before .before .direct .last .1 .1 .1 .1 .0) (c .before .before .before .before .before .before .before .before .before .before .before .before .before .before .before .direct .result) (p .1) (omega arith) (p .2) (c .before .before .before .before .before .before .before .before .before .before .before .before .before .before .before .before .before .before .before .before .before .before .draw-into .ensures .0) (c .before .before .before .before .before .before .before .before .before .before .before .before .before .before .before .direct .ensures .0) (c .before .before .before .before .before .before .before .before .before .before .before .before .before .before .before .direct .ensures .1) (c .before .before .before .before .before .before .before .advance .result) (c .before .before .before .before .before .before .before .advance .last .0) (c .before .before .before .before .before .before .before .advance .last .1 .1 .0) (c .before .before .before .before .before .before .before .advance .ensures) (c .before .before .before .before .before .before .before .before .before .before .before .before .if1 .left) _ (not-true _ (c .if2 .taken)) refl refl refl (c .before .before .before .before .before .before .before .before .before .before .before .before .before .before .before .before .before .before .before .before .before .before .draw-into .ensures .1)
+    stops-nowhere e l (a .num .now) (a .blocked .now) (a .x .now) (a .free .now) (a .from .count) (a .from .frozen) (a .from .rng .state) (r + r + r + m - (r + r + r)) (a .g .now) (c22 .draw-into .last .0) (c15 .direct .last .1 .1 .1 .1 .0) (c15 .direct .result) (p .1) (omega arith) (p .2) (c22 .draw-into .ensures .0) (c15 .direct .ensures .0) (c15 .direct .ensures .1) (c7 .advance .result) (c7 .advance .last .0) (c7 .advance .last .1 .1 .0) (c7 .advance .ensures) (c12 .if1 .left) _ (not-true _ (c .if2 .taken)) refl refl refl (c22 .draw-into .ensures .1)
 
 freeze-requires : tie.Need-freeze-requires
 freeze-requires c κs =
-    let p = c .before .before .before .before .before .before .before .before .before .before .before .before .before .before .before .before .before .before .before .before .before .before .before .before .before .before .before .before .before .before .before .before .before .before .before .before .before .before .pre in
-    (p .0, roomy-kept _ _ (p .1) (c .before .before .before .before .before .before .before .before .before .before .before .before .advance .kept .0) (c .before .before .before .before .before .before .before .before .before .before .before .before .advance .kept .1 .1 .0), p .3, p .4)
+    let c12 = c .before .before .before .before .before .before .before .before .before .before .before .before in
+    let c38 = c12 .before .before .before .before .before .before .before .before .before .before .before .before .before .before .before .before .before .before .before .before .before .before .before .before .before .before in
+    let p = c38 .pre in
+    (p .0, roomy-kept _ _ (p .1) (c12 .advance .kept .0) (c12 .advance .kept .1 .1 .0), p .3, p .4)
 
 same-length-8 : tie.Need-same-length-8
 same-length-8 c = search needs
@@ -104,22 +123,33 @@ same-length-11 : tie.Need-same-length-11
 same-length-11 c = search needs
 
 same-length-12 : tie.Need-same-length-12
-same-length-12 c = c .before .before .before .before .before .before .before .before .before .before .before .before .before .before .before .before .before .before .before .before .before .before .before .before .advance .kept .1 .1 .1 .1 .1 .1 .1 .1 .0 ∙ c .before .before .before .before .before .before .before .before .before .before .before .before .before .before .before .before .before .before .before .before .before .before .before .before .before .before .before .before .before .before .before .before .direct .kept .1 .1 .1 .1 .0 ∙ c .before .before .before .before .before .before .before .before .before .before .before .before .before .before .before .before .before .before .before .before .before .before .before .before .before .before .before .before .before .before .before .before .before .before .before .before .before .before .before .draw-into .kept .0
+same-length-12 c =
+    let c24 = c .before .before .before .before .before .before .before .before .before .before .before .before .before .before .before .before .before .before .before .before .before .before .before .before in
+    let c32 = c24 .before .before .before .before .before .before .before .before in
+    let c39 = c32 .before .before .before .before .before .before .before in
+    c24 .advance .kept .1 .1 .1 .1 .1 .1 .1 .1 .0 ∙ c32 .direct .kept .1 .1 .1 .1 .0 ∙ c39 .draw-into .kept .0
 
 same-length-13 : tie.Need-same-length-13
 same-length-13 c = search needs
 
 returns-3 : tie.Need-returns-3
 returns-3 c =
-    let a = c .before .before .before .before .before .before .before .before .before .before .before .before .before .before .before .before .before .before .before .before .before .before .before .before .before .before .before .before .before .before .before .before .before .before .before .before .before .before .before .before .before .before .before .before .before .before .before .before .before .before .args in
-    let p = c .before .before .before .before .before .before .before .before .before .before .before .before .before .before .before .before .before .before .before .before .before .before .before .before .before .before .before .before .before .before .before .before .before .before .before .before .before .before .before .before .before .before .before .before .before .before .before .before .before .before .pre in
+    let c11 = c .before .before .before .before .before .before .before .before .before .before .before in
+    let c17 = c11 .before .before .before .before .before .before in
+    let c24 = c17 .before .before .before .before .before .before .before in
+    let c29 = c24 .before .before .before .before .before in
+    let c32 = c29 .before .before .before in
+    let c39 = c32 .before .before .before .before .before .before .before in
+    let c50 = c39 .before .before .before .before .before .before .before .before .before .before .before in
+    let a = c50 .args in
+    let p = c50 .pre in
     let l = length (a .cols .now) in
     let r = length (a .blocked .now) in
     let m = a .from .count * l in
     let e = entryOf (a .u .now) (a .n) (a .cols .now) (a .scale .now) in
-    moves-on e l (a .num .now) (a .blocked .now) (a .x .now) (a .free .now) (a .from .count) (a .from .frozen) (a .from .rng .state) (r + r + r + m - (r + r + r)) (a .g .now) (c .before .before .before .before .before .before .before .before .before .before .before .before .before .before .before .before .before .before .before .before .before .before .before .before .before .before .before .before .before .before .before .before .before .before .before .before .before .before .before .draw-into .last .0) (c .before .before .before .before .before .before .before .before .before .before .before .before .before .before .before .before .before .before .before .before .before .before .before .before .before .before .before .before .before .before .before .before .direct .last .1 .1 .1 .1 .0) (c .before .before .before .before .before .before .before .before .before .before .before .before .before .before .before .before .before .before .before .before .before .before .before .before .before .before .before .before .before .before .before .before .direct .result) (p .1) (omega arith) (p .2) (c .before .before .before .before .before .before .before .before .before .before .before .before .before .before .before .before .before .before .before .before .before .before .before .before .before .before .before .before .before .before .before .before .before .before .before .before .before .before .before .draw-into .ensures .0) (c .before .before .before .before .before .before .before .before .before .before .before .before .before .before .before .before .before .before .before .before .before .before .before .before .before .before .before .before .before .before .before .before .direct .ensures .0) (c .before .before .before .before .before .before .before .before .before .before .before .before .before .before .before .before .before .before .before .before .before .before .before .before .before .before .before .before .before .before .before .before .direct .ensures .1) (c .before .before .before .before .before .before .before .before .before .before .before .before .before .before .before .before .before .before .before .before .before .before .before .before .advance .result) (c .before .before .before .before .before .before .before .before .before .before .before .before .before .before .before .before .before .before .before .before .before .before .before .before .advance .last .0) (c .before .before .before .before .before .before .before .before .before .before .before .before .before .before .before .before .before .before .before .before .before .before .before .before .advance .last .1 .1 .0) (c .before .before .before .before .before .before .before .before .before .before .before .before .before .before .before .before .before .before .before .before .before .before .before .before .advance .ensures) (c .before .before .before .before .before .before .before .before .before .before .before .before .before .before .before .before .before .before .before .before .before .before .before .before .before .before .before .before .before .if1 .left)
-    _ (c .before .before .before .before .before .before .before .before .before .before .before .freeze .last .0) (c .before .before .before .before .before .before .before .before .before .before .before .freeze .last .1 .1 .0) (c .before .before .before .before .before .before .before .before .before .before .before .freeze .last .1 .1 .1 .0) (c .before .before .before .before .before .before .before .before .before .before .before .freeze .last .1 .1 .1 .1 .0) (c .before .before .before .before .before .before .before .before .before .before .before .freeze .result .count) (c .before .before .before .before .before .before .before .before .before .before .before .freeze .result .frozen) (not-false _ (c .before .before .before .before .before .before .before .before .before .before .before .before .before .before .before .before .before .if2 .left)) (c .before .before .before .before .before .before .before .before .before .before .before .before .before .before .before .before .before .before .before .before .before .before .before .before .advance .kept .1 .1 .0)
-    (c .before .before .before .before .before .before .before .before .before .before .before .freeze .ensures) refl refl refl (c .before .before .before .before .before .before .before .before .before .before .before .before .before .before .before .before .before .before .before .before .before .before .before .before .before .before .before .before .before .before .before .before .before .before .before .before .before .before .before .draw-into .ensures .1)
+    moves-on e l (a .num .now) (a .blocked .now) (a .x .now) (a .free .now) (a .from .count) (a .from .frozen) (a .from .rng .state) (r + r + r + m - (r + r + r)) (a .g .now) (c39 .draw-into .last .0) (c32 .direct .last .1 .1 .1 .1 .0) (c32 .direct .result) (p .1) (omega arith) (p .2) (c39 .draw-into .ensures .0) (c32 .direct .ensures .0) (c32 .direct .ensures .1) (c24 .advance .result) (c24 .advance .last .0) (c24 .advance .last .1 .1 .0) (c24 .advance .ensures) (c29 .if1 .left)
+    _ (c11 .freeze .last .0) (c11 .freeze .last .1 .1 .0) (c11 .freeze .last .1 .1 .1 .0) (c11 .freeze .last .1 .1 .1 .1 .0) (c11 .freeze .result .count) (c11 .freeze .result .frozen) (not-false _ (c17 .if2 .left)) (c24 .advance .kept .1 .1 .0)
+    (c11 .freeze .ensures) refl refl refl (c39 .draw-into .ensures .1)
 
 pub step-spec : {M : Type 1} → statement M
 step-spec =

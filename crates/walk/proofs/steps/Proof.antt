@@ -20,8 +20,9 @@ abbrev μ-loop : tie.MeasureT-loop
 
 loop-holds : tie.Need-loop-holds Inv-loop μ-loop
 loop-holds c =
-    let a = c .before .before .before .before .before .before .before .before .before .args in
-    going-start (entryOf (a .u .now) (a .n) (a .cols .now) (a .scale .now)) (length (a .cols .now)) (a .num .now) (a .blocked .now) (a .x .now) (a .free .now) (a .g .now) (a .v .now) (a .from .count) (a .from .frozen) (a .from .rng .state) (c .before .before .before .before .before .before .before .before .before .pre .1) (c .before .before .before .before .before .before .before .before .before .pre .4)
+    let c9 = c .before .before .before .before .before .before .before .before .before in
+    let a = c9 .args in
+    going-start (entryOf (a .u .now) (a .n) (a .cols .now) (a .scale .now)) (length (a .cols .now)) (a .num .now) (a .blocked .now) (a .x .now) (a .free .now) (a .g .now) (a .v .now) (a .from .count) (a .from .frozen) (a .from .rng .state) (c9 .pre .1) (c9 .pre .4)
 
 step-requires : tie.Need-step-requires Inv-loop μ-loop
 step-requires c κs =
@@ -31,17 +32,25 @@ step-requires c κs =
 
 loop-less : tie.Need-loop-less Inv-loop μ-loop
 loop-less c =
-    let a = c .before .before .before .before .before .before .before .before .before .before .before .before .before .before .before .before .before .before .before .before .before .before .before .before .before .before .before .before .before .before .before .before .before .before .args in
-    let s = c .before .before .before .before .before .before .before .before .before .before .before .before .before .before .before .before .before .before .before .before .before .before .before .before .loop in
+    let c15 = c .before .before .before .before .before .before .before .before .before .before .before .before .before .before .before in
+    let c22 = c15 .before .before .before .before .before .before .before in
+    let c24 = c22 .before .before in
+    let c34 = c24 .before .before .before .before .before .before .before .before .before .before in
+    let a = c34 .args in
+    let s = c24 .loop in
     let w = held (a .num .now) (a .blocked .now) (a .x .now) (a .free .now) (a .from .count) (a .from .frozen) (a .from .rng .state) in
-    fewer-free (entryOf (a .u .now) (a .n) (a .cols .now) (a .scale .now)) (length (a .cols .now)) (a .num .now) (a .blocked .now) (a .x .now) (a .free .now) (a .g .now) (a .v .now) w (s .num) (s .blocked) (s .x) (s .free) (s .g) (s .v) (s .at .count) (s .at .frozen) (s .at .rng .state) (s .inv) (c .before .before .before .before .before .before .before .before .before .before .before .before .before .before .before .step .last .0) (c .before .before .before .before .before .before .before .before .before .before .before .before .before .before .before .step .last .1 .0) (c .before .before .before .before .before .before .before .before .before .before .before .before .before .before .before .step .last .1 .1 .0) (c .before .before .before .before .before .before .before .before .before .before .before .before .before .before .before .step .last .1 .1 .1 .0) (c .before .before .before .before .before .before .before .before .before .before .before .before .before .before .before .step .result) (c .before .before .before .before .before .before .before .before .before .before .before .before .before .before .before .before .before .before .before .before .before .before .if1 .taken) (c .before .before .before .before .before .before .before .before .before .before .before .before .before .before .before .step .ensures) (not-false _ (c .if2 .left))
+    fewer-free (entryOf (a .u .now) (a .n) (a .cols .now) (a .scale .now)) (length (a .cols .now)) (a .num .now) (a .blocked .now) (a .x .now) (a .free .now) (a .g .now) (a .v .now) w (s .num) (s .blocked) (s .x) (s .free) (s .g) (s .v) (s .at .count) (s .at .frozen) (s .at .rng .state) (s .inv) (c15 .step .last .0) (c15 .step .last .1 .0) (c15 .step .last .1 .1 .0) (c15 .step .last .1 .1 .1 .0) (c15 .step .result) (c22 .if1 .taken) (c15 .step .ensures) (not-false _ (c .if2 .left))
 
 loop-again : tie.Need-loop-again Inv-loop μ-loop
 loop-again c =
-    let a = c .before .before .before .before .before .before .before .before .before .before .before .before .before .before .before .before .before .before .before .before .before .before .before .before .before .before .before .before .before .before .before .before .before .before .args in
-    let s = c .before .before .before .before .before .before .before .before .before .before .before .before .before .before .before .before .before .before .before .before .before .before .before .before .loop in
+    let c15 = c .before .before .before .before .before .before .before .before .before .before .before .before .before .before .before in
+    let c22 = c15 .before .before .before .before .before .before .before in
+    let c24 = c22 .before .before in
+    let c34 = c24 .before .before .before .before .before .before .before .before .before .before in
+    let a = c34 .args in
+    let s = c24 .loop in
     let w = held (a .num .now) (a .blocked .now) (a .x .now) (a .free .now) (a .from .count) (a .from .frozen) (a .from .rng .state) in
-    going-on (entryOf (a .u .now) (a .n) (a .cols .now) (a .scale .now)) (length (a .cols .now)) (a .num .now) (a .blocked .now) (a .x .now) (a .free .now) (a .g .now) (a .v .now) w (s .num) (s .blocked) (s .x) (s .free) (s .g) (s .v) (s .at .count) (s .at .frozen) (s .at .rng .state) (s .inv) (c .before .before .before .before .before .before .before .before .before .before .before .before .before .before .before .step .last .0) (c .before .before .before .before .before .before .before .before .before .before .before .before .before .before .before .step .last .1 .0) (c .before .before .before .before .before .before .before .before .before .before .before .before .before .before .before .step .last .1 .1 .0) (c .before .before .before .before .before .before .before .before .before .before .before .before .before .before .before .step .last .1 .1 .1 .0) (c .before .before .before .before .before .before .before .before .before .before .before .before .before .before .before .step .result) (c .before .before .before .before .before .before .before .before .before .before .before .before .before .before .before .before .before .before .before .before .before .before .if1 .taken) (c .before .before .before .before .before .before .before .before .before .before .before .before .before .before .before .step .ensures) (c .before .before .before .before .before .before .before .before .before .before .before .before .before .before .before .step .last .1 .1 .1 .1 .1 .1 .1 .1 .1 .0) (c .before .before .before .before .before .before .before .before .before .before .before .before .before .before .before .step .last .1 .1 .1 .1 .1 .1 .1 .1 .1 .1 .0) (not-false _ (c .if2 .left)) (c .before .before .before .before .before .before .before .before .before .before .before .before .before .before .before .step .kept .0) (c .before .before .before .before .before .before .before .before .before .before .before .before .before .before .before .step .kept .1 .0) (c .before .before .before .before .before .before .before .before .before .before .before .before .before .before .before .step .kept .1 .1 .0) (c .before .before .before .before .before .before .before .before .before .before .before .before .before .before .before .step .kept .1 .1 .1 .0) (c .before .before .before .before .before .before .before .before .before .before .before .before .before .before .before .step .kept .1 .1 .1 .1 .1 .1 .1 .1 .1 .0) (c .before .before .before .before .before .before .before .before .before .before .before .before .before .before .before .step .kept .1 .1 .1 .1 .1 .1 .1 .1 .1 .1 .0)
+    going-on (entryOf (a .u .now) (a .n) (a .cols .now) (a .scale .now)) (length (a .cols .now)) (a .num .now) (a .blocked .now) (a .x .now) (a .free .now) (a .g .now) (a .v .now) w (s .num) (s .blocked) (s .x) (s .free) (s .g) (s .v) (s .at .count) (s .at .frozen) (s .at .rng .state) (s .inv) (c15 .step .last .0) (c15 .step .last .1 .0) (c15 .step .last .1 .1 .0) (c15 .step .last .1 .1 .1 .0) (c15 .step .result) (c22 .if1 .taken) (c15 .step .ensures) (c15 .step .last .1 .1 .1 .1 .1 .1 .1 .1 .1 .0) (c15 .step .last .1 .1 .1 .1 .1 .1 .1 .1 .1 .1 .0) (not-false _ (c .if2 .left)) (c15 .step .kept .0) (c15 .step .kept .1 .0) (c15 .step .kept .1 .1 .0) (c15 .step .kept .1 .1 .1 .0) (c15 .step .kept .1 .1 .1 .1 .1 .1 .1 .1 .1 .0) (c15 .step .kept .1 .1 .1 .1 .1 .1 .1 .1 .1 .1 .0)
 
 same-length : tie.Need-same-length Inv-loop μ-loop
 same-length c = search needs
@@ -63,8 +72,10 @@ same-length-6 c = search needs
 
 returns : tie.Need-returns Inv-loop μ-loop
 returns c =
-    let a = c .before .before .before .before .before .before .before .before .before .before .before .before .args in
-    let s = c .before .before .loop in
+    let c2 = c .before .before in
+    let c12 = c2 .before .before .before .before .before .before .before .before .before .before in
+    let a = c12 .args in
+    let s = c2 .loop in
     let w = held (a .num .now) (a .blocked .now) (a .x .now) (a .free .now) (a .from .count) (a .from .frozen) (a .from .rng .state) in
     going-full (entryOf (a .u .now) (a .n) (a .cols .now) (a .scale .now)) (length (a .cols .now)) (a .num .now) (a .blocked .now) (a .x .now) (a .free .now) (a .g .now) (a .v .now) w (s .num) (s .blocked) (s .x) (s .free) (s .g) (s .v) (s .at .count) (s .at .frozen) (s .at .rng .state) (s .inv) (c .if1 .left)
 
@@ -88,10 +99,14 @@ same-length-12 c = search needs
 
 returns-2 : tie.Need-returns-2 Inv-loop μ-loop
 returns-2 c =
-    let a = c .before .before .before .before .before .before .before .before .before .before .before .before .before .before .before .before .before .before .before .before .before .before .before .before .before .before .before .before .before .before .before .before .before .before .args in
-    let s = c .before .before .before .before .before .before .before .before .before .before .before .before .before .before .before .before .before .before .before .before .before .before .before .before .loop in
+    let c15 = c .before .before .before .before .before .before .before .before .before .before .before .before .before .before .before in
+    let c22 = c15 .before .before .before .before .before .before .before in
+    let c24 = c22 .before .before in
+    let c34 = c24 .before .before .before .before .before .before .before .before .before .before in
+    let a = c34 .args in
+    let s = c24 .loop in
     let w = held (a .num .now) (a .blocked .now) (a .x .now) (a .free .now) (a .from .count) (a .from .frozen) (a .from .rng .state) in
-    going-last (entryOf (a .u .now) (a .n) (a .cols .now) (a .scale .now)) (length (a .cols .now)) (a .num .now) (a .blocked .now) (a .x .now) (a .free .now) (a .g .now) (a .v .now) w (s .num) (s .blocked) (s .x) (s .free) (s .g) (s .v) (s .at .count) (s .at .frozen) (s .at .rng .state) (s .inv) (c .before .before .before .before .before .before .before .before .before .before .before .before .before .before .before .step .last .0) (c .before .before .before .before .before .before .before .before .before .before .before .before .before .before .before .step .last .1 .0) (c .before .before .before .before .before .before .before .before .before .before .before .before .before .before .before .step .last .1 .1 .0) (c .before .before .before .before .before .before .before .before .before .before .before .before .before .before .before .step .last .1 .1 .1 .0) (c .before .before .before .before .before .before .before .before .before .before .before .before .before .before .before .step .result) (c .before .before .before .before .before .before .before .before .before .before .before .before .before .before .before .before .before .before .before .before .before .before .if1 .taken) (c .before .before .before .before .before .before .before .before .before .before .before .before .before .before .before .step .ensures) (not-true _ (c .if2 .taken))
+    going-last (entryOf (a .u .now) (a .n) (a .cols .now) (a .scale .now)) (length (a .cols .now)) (a .num .now) (a .blocked .now) (a .x .now) (a .free .now) (a .g .now) (a .v .now) w (s .num) (s .blocked) (s .x) (s .free) (s .g) (s .v) (s .at .count) (s .at .frozen) (s .at .rng .state) (s .inv) (c15 .step .last .0) (c15 .step .last .1 .0) (c15 .step .last .1 .1 .0) (c15 .step .last .1 .1 .1 .0) (c15 .step .result) (c22 .if1 .taken) (c15 .step .ensures) (not-true _ (c .if2 .taken))
 
 pub steps-spec : {M : Type 1} → statement M
 steps-spec =

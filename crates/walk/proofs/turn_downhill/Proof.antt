@@ -81,11 +81,16 @@ same-length-2 c = search needs
 
 returns : tie.Need-returns
 returns c =
-    let a = c .before .before .before .before .before .before .before .before .before .before .before .before .before .before .before .before .before .before .before .before .before .before .args in
-    let p = c .before .before .before .before .before .before .before .before .before .before .before .before .before .before .before .before .before .before .before .before .before .before .pre in
+    let c2 = c .before .before in
+    let c6 = c2 .before .before .before .before in
+    let c8 = c6 .before .before in
+    let c14 = c8 .before .before .before .before .before .before in
+    let c22 = c14 .before .before .before .before .before .before .before .before in
+    let a = c22 .args in
+    let p = c22 .pre in
     let r = a .rows in
-    downhill (entryOf (a .u .now) (a .n) (a .cols .now) (a .scale .now)) r (r + r - r) (r - 0) (length (a .cols .now)) (a .num .now) (a .g .now) (c .before .before .before .before .before .before .before .before .before .before .before .before .before .before .times-into .last .0) (c .before .before .turn-if2 .last .0) (c .before .before .before .before .before .before .turn-if .last .0) (c .before .before .before .before .before .before .before .before .dot .result)
-    (omega arith) (omega arith) (p .2) (p .1) (c .before .before .before .before .before .before .before .before .before .before .before .before .before .before .times-into .ensures) (c .before .before .before .before .before .before .before .before .dot .ensures) (c .before .before .before .before .before .before .turn-if .ensures) (c .before .before .turn-if2 .ensures)
+    downhill (entryOf (a .u .now) (a .n) (a .cols .now) (a .scale .now)) r (r + r - r) (r - 0) (length (a .cols .now)) (a .num .now) (a .g .now) (c14 .times-into .last .0) (c2 .turn-if2 .last .0) (c6 .turn-if .last .0) (c8 .dot .result)
+    (omega arith) (omega arith) (p .2) (p .1) (c14 .times-into .ensures) (c8 .dot .ensures) (c6 .turn-if .ensures) (c2 .turn-if2 .ensures)
 
 pub turn-downhill-spec : {M : Type 1} → statement M
 turn-downhill-spec =

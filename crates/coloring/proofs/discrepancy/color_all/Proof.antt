@@ -33,7 +33,10 @@ array-share-prefix-cols : tie.Need-array-share-prefix-cols
 array-share-prefix-cols c = filled-long (λ i. i) _ _ _ (c .before .before .before .before .before .before .before .before .before .before .pre .1) (c .before .before .before .before .count-up .ensures)
 
 slice-aggregate-coloring : tie.Need-slice-aggregate-coloring
-slice-aggregate-coloring c = sym (length-take-le _ _ (filled-long (λ i. i) _ _ _ (c .before .before .before .before .before .before .before .before .before .before .before .pre .1) (c .before .before .before .before .before .count-up .ensures)))
+slice-aggregate-coloring c =
+    let c5 = c .before .before .before .before .before in
+    let c11 = c5 .before .before .before .before .before .before in
+    sym (length-take-le _ _ (filled-long (λ i. i) _ _ _ (c11 .pre .1) (c5 .count-up .ensures)))
 
 array-share-prefix-scale : tie.Need-array-share-prefix-scale
 array-share-prefix-scale c = filled-long (λ i. one) _ _ _ (c .before .before .before .before .before .before .before .before .before .before .before .pre .1) (c .before .before .fill .ensures)
@@ -52,13 +55,16 @@ new-requires c κs = search needs
 
 coloring-requires : tie.Need-coloring-requires
 coloring-requires c κs =
-    let indices : List ℕ = take (c .before .before .before .before .before .before .before .before .before .before .before .before .before .before .before .before .args .n) (c .before .before .before .before .before .before .before .before .before .before .before .before .before .before .before .before .args .indices .now) in
-    own-asked (c .before .before .before .before .before .before .before .before .before .before .before .before .before .before .before .before .args .matrix .now) (c .before .before .before .before .before .before .before .before .before .before .before .before .before .before .before .before .args .m) (c .before .before .before .before .before .before .before .before .before .before .before .before .before .before .before .before .args .n) _ _ indices
-    (c .before .before .before .before .before .before .before .before .before .before .before .before .before .before .before .before .pre .0)
-    (filled-back (λ i. i) _ _ _ (c .before .before .before .before .before .before .before .before .before .before .before .before .before .before .before .before .pre .1) (c .before .before .before .before .before .before .before .before .before .before .count-up .ensures))
-    (filled-back (λ i. one) _ _ _ (c .before .before .before .before .before .before .before .before .before .before .before .before .before .before .before .before .pre .1) (c .before .before .before .before .before .before .before .fill .ensures))
-    (length-take-le (c .before .before .before .before .before .before .before .before .before .before .before .before .before .before .before .before .args .n) (c .before .before .before .before .before .before .before .before .before .before .before .before .before .before .before .before .args .indices .now) (c .before .before .before .before .before .before .before .before .before .before .before .before .before .before .before .before .pre .5))
-    (c .before .before .before .before .before .before .before .before .before .before .before .before .before .before .before .before .args .x .now) (c .before .before .before .before .before .before .before .before .before .before .before .before .before .before .before .before .args .numbers .now) (c .before .before .before .before .before .before .before .before .before .before .before .before .before .before .before .before .pre .1) (c .before .before .before .before .before .before .before .before .before .before .before .before .before .before .before .before .pre .2) (c .before .before .before .before .before .before .before .before .before .before .before .before .before .before .before .before .pre .3) (c .before .before .before .before .before .before .before .before .before .before .before .before .before .before .before .before .pre .4)
+    let c7 = c .before .before .before .before .before .before .before in
+    let c10 = c7 .before .before .before in
+    let c16 = c10 .before .before .before .before .before .before in
+    let indices : List ℕ = take (c16 .args .n) (c16 .args .indices .now) in
+    own-asked (c16 .args .matrix .now) (c16 .args .m) (c16 .args .n) _ _ indices
+    (c16 .pre .0)
+    (filled-back (λ i. i) _ _ _ (c16 .pre .1) (c10 .count-up .ensures))
+    (filled-back (λ i. one) _ _ _ (c16 .pre .1) (c7 .fill .ensures))
+    (length-take-le (c16 .args .n) (c16 .args .indices .now) (c16 .pre .5))
+    (c16 .args .x .now) (c16 .args .numbers .now) (c16 .pre .1) (c16 .pre .2) (c16 .pre .3) (c16 .pre .4)
 
 same-length : tie.Need-same-length
 same-length c = search needs
@@ -71,14 +77,20 @@ same-length-3 c = search needs
 
 returns : tie.Need-returns
 returns c =
-    let indices : List ℕ = take (c .before .before .before .before .before .before .before .before .before .before .before .before .before .before .before .before .before .before .before .before .before .before .before .args .n) (c .before .before .before .before .before .before .before .before .before .before .before .before .before .before .before .before .before .before .before .before .before .before .before .args .indices .now) in
-    c .before .before .before .before .before .before .coloring .ensures .0
-    ∙ own-left (c .before .before .before .before .before .before .before .before .before .before .before .before .before .before .before .before .before .before .before .before .before .before .before .args .matrix .now) (c .before .before .before .before .before .before .before .before .before .before .before .before .before .before .before .before .before .before .before .before .before .before .before .args .m) (c .before .before .before .before .before .before .before .before .before .before .before .before .before .before .before .before .before .before .before .before .before .before .before .args .n) _ _ indices
-    (c .before .before .before .before .before .before .before .before .before .before .before .before .before .before .before .before .before .before .before .before .before .before .before .pre .0)
-    (filled-back (λ i. i) _ _ _ (c .before .before .before .before .before .before .before .before .before .before .before .before .before .before .before .before .before .before .before .before .before .before .before .pre .1) (c .before .before .before .before .before .before .before .before .before .before .before .before .before .before .before .before .before .count-up .ensures))
-    (filled-back (λ i. one) _ _ _ (c .before .before .before .before .before .before .before .before .before .before .before .before .before .before .before .before .before .before .before .before .before .before .before .pre .1) (c .before .before .before .before .before .before .before .before .before .before .before .before .before .before .fill .ensures))
-    (length-take-le (c .before .before .before .before .before .before .before .before .before .before .before .before .before .before .before .before .before .before .before .before .before .before .before .args .n) (c .before .before .before .before .before .before .before .before .before .before .before .before .before .before .before .before .before .before .before .before .before .before .before .args .indices .now) (c .before .before .before .before .before .before .before .before .before .before .before .before .before .before .before .before .before .before .before .before .before .before .before .pre .5))
-    (c .before .before .before .before .before .before .before .before .before .before .before .before .before .before .before .before .before .before .before .before .before .before .shared-slice-known .given) _ _ (c .before .before .before .before .before .before .before .new .ensures)
+    let c6 = c .before .before .before .before .before .before in
+    let c7 = c6 .before in
+    let c14 = c7 .before .before .before .before .before .before .before in
+    let c17 = c14 .before .before .before in
+    let c22 = c17 .before .before .before .before .before in
+    let c23 = c22 .before in
+    let indices : List ℕ = take (c23 .args .n) (c23 .args .indices .now) in
+    c6 .coloring .ensures .0
+    ∙ own-left (c23 .args .matrix .now) (c23 .args .m) (c23 .args .n) _ _ indices
+    (c23 .pre .0)
+    (filled-back (λ i. i) _ _ _ (c23 .pre .1) (c17 .count-up .ensures))
+    (filled-back (λ i. one) _ _ _ (c23 .pre .1) (c14 .fill .ensures))
+    (length-take-le (c23 .args .n) (c23 .args .indices .now) (c23 .pre .5))
+    (c22 .shared-slice-known .given) _ _ (c7 .new .ensures)
 
 pub color-all-spec : {M : Type 1} → statement M
 color-all-spec =

@@ -59,12 +59,24 @@ all-bounded-requires c κs = search needs
 
 returns-4 : tie.Need-returns-4
 returns-4 c =
-    granted _ _ _ _ _ _ (sym (c .before .before .before .before .before .before .before .too-large .ensures) ∙ c .before .before .before .before .before .before .if1 .left) (c .before .before .before .before .before .if2 .left) (c .before .before .before .before .if3 .left) (sym (c .before .before .before .scratch-short .ensures) ∙ c .before .before .if4 .left)
+    let c2 = c .before .before in
+    let c3 = c2 .before in
+    let c4 = c3 .before in
+    let c5 = c4 .before in
+    let c6 = c5 .before in
+    let c7 = c6 .before in
+    granted _ _ _ _ _ _ (sym (c7 .too-large .ensures) ∙ c6 .if1 .left) (c5 .if2 .left) (c4 .if3 .left) (sym (c3 .scratch-short .ensures) ∙ c2 .if4 .left)
     (sym (c .before .all-bounded .ensures) ∙ c .if5 .taken)
 
 returns-5 : tie.Need-returns-5
 returns-5 c =
-    unbounded _ _ _ _ _ _ (sym (c .before .before .before .before .before .before .before .too-large .ensures) ∙ c .before .before .before .before .before .before .if1 .left) (c .before .before .before .before .before .if2 .left) (c .before .before .before .before .if3 .left) (sym (c .before .before .before .scratch-short .ensures) ∙ c .before .before .if4 .left)
+    let c2 = c .before .before in
+    let c3 = c2 .before in
+    let c4 = c3 .before in
+    let c5 = c4 .before in
+    let c6 = c5 .before in
+    let c7 = c6 .before in
+    unbounded _ _ _ _ _ _ (sym (c7 .too-large .ensures) ∙ c6 .if1 .left) (c5 .if2 .left) (c4 .if3 .left) (sym (c3 .scratch-short .ensures) ∙ c2 .if4 .left)
     (sym (c .before .all-bounded .ensures) ∙ c .if5 .left)
 
 pub coloring-fault-spec : {M : Type 1} → statement M

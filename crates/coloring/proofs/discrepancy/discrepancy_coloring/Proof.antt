@@ -29,18 +29,27 @@ color-all-requires c κs =
 
 array-share-prefix-x : tie.Need-array-share-prefix-x
 array-share-prefix-x c =
-    back-long _ (c .before .before .before .before .before .before .color-all .last .1 .1 .1 .1 .0) _ (accepted _ _ _ _ _ _ (sym (c .before .before .before .before .before .before .before .before .before .before .before .coloring-fault .ensures) ∙ c .before .before .before .before .before .before .before .before .before .before .if1 .left) .columns) (c .before .before .before .before .before .before .color-all .kept .1 .1 .1 .1 .0)
+    let c6 = c .before .before .before .before .before .before in
+    let c10 = c6 .before .before .before .before in
+    let c11 = c10 .before in
+    back-long _ (c6 .color-all .last .1 .1 .1 .1 .0) _ (accepted _ _ _ _ _ _ (sym (c11 .coloring-fault .ensures) ∙ c10 .if1 .left) .columns) (c6 .color-all .kept .1 .1 .1 .1 .0)
 
 slice-aggregate-write-colours : tie.Need-slice-aggregate-write-colours
 slice-aggregate-write-colours c =
+    let c7 = c .before .before .before .before .before .before .before in
+    let c11 = c7 .before .before .before .before in
+    let c12 = c11 .before in
     sym
     (length-take-le _ _
-    (back-long _ (c .before .before .before .before .before .before .before .color-all .last .1 .1 .1 .1 .0) _ (accepted _ _ _ _ _ _ (sym (c .before .before .before .before .before .before .before .before .before .before .before .before .coloring-fault .ensures) ∙ c .before .before .before .before .before .before .before .before .before .before .before .if1 .left) .columns) (c .before .before .before .before .before .before .before .color-all .kept .1 .1 .1 .1 .0)))
+    (back-long _ (c7 .color-all .last .1 .1 .1 .1 .0) _ (accepted _ _ _ _ _ _ (sym (c12 .coloring-fault .ensures) ∙ c11 .if1 .left) .columns) (c7 .color-all .kept .1 .1 .1 .1 .0)))
 
 write-colours-requires : tie.Need-write-colours-requires
 write-colours-requires c κs =
-    let a = accepted _ _ _ _ _ _ (sym (c .before .before .before .before .before .before .before .before .before .before .before .before .coloring-fault .ensures) ∙ c .before .before .before .before .before .before .before .before .before .before .before .if1 .left) in
-    a .colours ∙ sym (length-take-le _ _ (back-long _ (c .before .before .before .before .before .before .before .color-all .last .1 .1 .1 .1 .0) _ (a .columns) (c .before .before .before .before .before .before .before .color-all .kept .1 .1 .1 .1 .0)))
+    let c7 = c .before .before .before .before .before .before .before in
+    let c11 = c7 .before .before .before .before in
+    let c12 = c11 .before in
+    let a = accepted _ _ _ _ _ _ (sym (c12 .coloring-fault .ensures) ∙ c11 .if1 .left) in
+    a .colours ∙ sym (length-take-le _ _ (back-long _ (c7 .color-all .last .1 .1 .1 .1 .0) _ (a .columns) (c7 .color-all .kept .1 .1 .1 .1 .0)))
 
 clear-requires : tie.Need-clear-requires
 clear-requires c κs = search needs
@@ -59,16 +68,22 @@ same-length-3 c = search needs
 
 returns-2 : tie.Need-returns-2
 returns-2 c =
-    let e = sym (c .before .before .before .before .before .before .before .before .before .before .before .before .before .before .before .before .before .before .before .before .before .before .coloring-fault .ensures) ∙ c .before .before .before .before .before .before .before .before .before .before .before .before .before .before .before .before .before .before .before .before .before .if1 .left in
+    let c2 = c .before .before in
+    let c6 = c2 .before .before .before .before in
+    let c9 = c6 .before .before .before in
+    let c17 = c9 .before .before .before .before .before .before .before .before in
+    let c21 = c17 .before .before .before .before in
+    let c22 = c21 .before in
+    let e = sym (c22 .coloring-fault .ensures) ∙ c21 .if1 .left in
     let a = accepted _ _ _ _ _ _ e in
-    let x : List Float = c .before .before .before .before .before .before .before .before .before .before .before .before .before .before .before .before .before .color-all .last .1 .1 .1 .1 .0 in
-    let kept = c .before .before .before .before .before .before .before .before .before .before .before .before .before .before .before .before .before .color-all .kept .1 .1 .1 .1 in
+    let x : List Float = c17 .color-all .last .1 .1 .1 .1 .0 in
+    let kept = c17 .color-all .kept .1 .1 .1 .1 in
     coloured _ _ _ _ _ _ _ _ _ _ _ e
-    (front-back _ x _ (a .columns) (kept .0) ∙ c .before .before .before .before .before .before .before .before .before .before .before .before .before .before .before .before .before .color-all .ensures)
+    (front-back _ x _ (a .columns) (kept .0) ∙ c17 .color-all .ensures)
     (length-take-le _ _ (back-long _ x _ (a .columns) (kept .0)))
-    (c .before .before .before .before .before .before .before .before .before .write-colours .ensures)
-    (c .before .before .before .before .before .before .clear .ensures ∙ rw (kept .1 .0))
-    (c .before .before .clear-words .ensures ∙ rw (kept .1 .1 .0))
+    (c9 .write-colours .ensures)
+    (c6 .clear .ensures ∙ rw (kept .1 .0))
+    (c2 .clear-words .ensures ∙ rw (kept .1 .1 .0))
 
 pub discrepancy-coloring-spec : {M : Type 1} → statement M
 discrepancy-coloring-spec =

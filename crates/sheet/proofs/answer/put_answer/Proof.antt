@@ -16,19 +16,32 @@ same-length : tie.Need-same-length
 same-length c = search needs
 
 returns : tie.Need-returns
-returns c = answer-refused (c .before .before .before .before .before .before .before .before .before .args .r) (c .before .before .before .before .before .before .before .before .before .args .w .now) (c .before .before .before .before .before .before .before .before .before .args .out .now) (c .before .before .put-note .result) (c .before .before .put-note .last .0) (c .before .before .before .before .before .if1 .taken) (c .before .before .put-note .ensures)
+returns c =
+    let c2 = c .before .before in
+    let c5 = c2 .before .before .before in
+    let c9 = c5 .before .before .before .before in
+    answer-refused (c9 .args .r) (c9 .args .w .now) (c9 .args .out .now) (c2 .put-note .result) (c2 .put-note .last .0) (c5 .if1 .taken) (c2 .put-note .ensures)
 
 put-ok-requires : tie.Need-put-ok-requires
 put-ok-requires c κs = search needs
 
 put-weights-requires : tie.Need-put-weights-requires
-put-weights-requires c κs = omega (arith, length-ok (c .before .before .before .before .before .before .before .before .before .args .r), c .before .before .before .put-ok .ensures .long, c .before .before .before .put-ok .kept .0, c .before .before .before .before .before .before .before .before .before .pre)
+put-weights-requires c κs =
+    let c3 = c .before .before .before in
+    let c9 = c3 .before .before .before .before .before .before in
+    omega (arith, length-ok (c9 .args .r), c3 .put-ok .ensures .long, c3 .put-ok .kept .0, c9 .pre)
 
 same-length-2 : tie.Need-same-length-2
 same-length-2 c = search needs
 
 returns-2 : tie.Need-returns-2
-returns-2 c = answer-accepted (c .before .before .before .before .before .before .before .before .before .before .before .before .args .r) (c .before .before .before .before .before .before .before .before .before .before .before .before .args .w .now) (c .before .before .before .before .before .before .before .before .before .before .before .before .args .out .now) (c .before .before .before .before .before .before .put-ok .result) (c .before .before .before .before .before .before .put-ok .last .0) (c .before .before .put-weights .result) (c .before .before .put-weights .last .0) (c .before .before .before .before .before .before .before .before .if1 .left) (c .before .before .before .before .before .before .before .before .before .before .before .before .pre) (omega (arith, length-ok (c .before .before .before .before .before .before .before .before .before .before .before .before .args .r), c .before .before .before .before .before .before .put-ok .ensures .long)) (c .before .before .before .before .before .before .put-ok .ensures) (c .before .before .put-weights .ensures)
+returns-2 c =
+    let c2 = c .before .before in
+    let c2 = c2 in
+    let c6 = c2 .before .before .before .before in
+    let c8 = c6 .before .before in
+    let c12 = c8 .before .before .before .before in
+    answer-accepted (c12 .args .r) (c12 .args .w .now) (c12 .args .out .now) (c6 .put-ok .result) (c6 .put-ok .last .0) (c2 .put-weights .result) (c2 .put-weights .last .0) (c8 .if1 .left) (c12 .pre) (omega (arith, length-ok (c12 .args .r), c6 .put-ok .ensures .long)) (c6 .put-ok .ensures) (c2 .put-weights .ensures)
 
 pub put-answer-spec : {M : Type 1} → statement M
 put-answer-spec =

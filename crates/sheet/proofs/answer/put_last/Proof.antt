@@ -21,7 +21,13 @@ same-length : tie.Need-same-length
 same-length c = search needs
 
 returns : tie.Need-returns
-returns c = last-wrote (c .before .before .before .before .before .before .before .before .before .before .before .args .x) (c .before .before .before .before .before .before .before .before .pattern .result) (c .before .before .before .before .before .before .before .before .before .before .before .args .at) (c .before .before .before .before .before .before .before .before .before .before .before .args .out .now) (c .before .before .before .before .before .before .before .put-bits .result) (c .before .before .before .before .before .before .before .put-bits .last .0) (c .before .before .put-word .result) (c .before .before .put-word .last .0) (c .before .before .before .before .before .before .before .before .before .before .before .pre) (c .before .before .before .before .before .before .before .before .pattern .ensures) (c .before .before .before .before .before .before .before .put-bits .ensures) (c .before .before .put-word .ensures)
+returns c =
+    let c2 = c .before .before in
+    let c2 = c2 in
+    let c7 = c2 .before .before .before .before .before in
+    let c8 = c7 .before in
+    let c11 = c8 .before .before .before in
+    last-wrote (c11 .args .x) (c8 .pattern .result) (c11 .args .at) (c11 .args .out .now) (c7 .put-bits .result) (c7 .put-bits .last .0) (c2 .put-word .result) (c2 .put-word .last .0) (c11 .pre) (c8 .pattern .ensures) (c7 .put-bits .ensures) (c2 .put-word .ensures)
 
 pub put-last-spec : {M : Type 1} → statement M
 put-last-spec =

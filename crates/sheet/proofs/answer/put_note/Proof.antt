@@ -17,13 +17,23 @@ slice-aggregate-put-word : tie.Need-slice-aggregate-put-word
 slice-aggregate-put-word c = search needs
 
 put-word-requires-2 : tie.Need-put-word-requires-2
-put-word-requires-2 c κs = omega (arith, width-most (c .before .before .before .before .before .before .before .before .before .before .before .before .args .number), c .before .before .before .before .before .before .before .before .put-word .ensures .0, c .before .before .before .before .put-count .ensures .0)
+put-word-requires-2 c κs =
+    let c4 = c .before .before .before .before in
+    let c8 = c4 .before .before .before .before in
+    let c12 = c8 .before .before .before .before in
+    omega (arith, width-most (c12 .args .number), c8 .put-word .ensures .0, c4 .put-count .ensures .0)
 
 same-length : tie.Need-same-length
 same-length c = search needs
 
 returns : tie.Need-returns
-returns c = note-wrote (c .before .before .before .before .before .before .before .before .before .before .before .before .before .before .before .args .word .now) (c .before .before .before .before .before .before .before .before .before .before .before .before .before .before .before .args .number) (c .before .before .before .before .before .before .before .before .before .before .before .before .before .before .before .args .out .now) (c .before .before .before .before .before .before .before .before .before .before .before .put-word .result) (c .before .before .before .before .before .before .before .before .before .before .before .put-word .last .0) (c .before .before .before .before .before .before .before .put-count .result) (c .before .before .before .before .before .before .before .put-count .last .0) (c .before .before .put-word2 .result) (c .before .before .put-word2 .last .0) (c .before .before .before .before .before .before .before .before .before .before .before .before .before .before .before .pre) (c .before .before .before .before .before .before .before .before .before .before .before .put-word .kept .0) (c .before .before .before .before .before .before .before .before .before .before .before .put-word .ensures) (c .before .before .before .before .before .before .before .put-count .ensures) (c .before .before .put-word2 .ensures)
+returns c =
+    let c2 = c .before .before in
+    let c2 = c2 in
+    let c7 = c2 .before .before .before .before .before in
+    let c11 = c7 .before .before .before .before in
+    let c15 = c11 .before .before .before .before in
+    note-wrote (c15 .args .word .now) (c15 .args .number) (c15 .args .out .now) (c11 .put-word .result) (c11 .put-word .last .0) (c7 .put-count .result) (c7 .put-count .last .0) (c2 .put-word2 .result) (c2 .put-word2 .last .0) (c15 .pre) (c11 .put-word .kept .0) (c11 .put-word .ensures) (c7 .put-count .ensures) (c2 .put-word2 .ensures)
 
 pub put-note-spec : {M : Type 1} → statement M
 put-note-spec =

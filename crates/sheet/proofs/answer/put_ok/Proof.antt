@@ -17,16 +17,33 @@ put-tabbed-requires : tie.Need-put-tabbed-requires
 put-tabbed-requires c κs = search needs
 
 put-tabbed-requires-2 : tie.Need-put-tabbed-requires-2
-put-tabbed-requires-2 c κs = omega (arith, length-tabbed (c .before .before .before .before .before .before .before .before .before .before .before .args .r .stage), c .before .before .before .before .before .before .before .put-word .ensures .0, c .before .before .before .put-tabbed .ensures .ends)
+put-tabbed-requires-2 c κs =
+    let c3 = c .before .before .before in
+    let c7 = c3 .before .before .before .before in
+    let c11 = c7 .before .before .before .before in
+    omega (arith, length-tabbed (c11 .args .r .stage), c7 .put-word .ensures .0, c3 .put-tabbed .ensures .ends)
 
 put-last-requires : tie.Need-put-last-requires
-put-last-requires c κs = omega (arith, length-tabbed (c .before .before .before .before .before .before .before .before .before .before .before .before .before .before .before .args .r .stage), length-tabbed (c .before .before .before .before .before .before .before .before .before .before .before .before .before .before .before .args .r .nonzeros), c .before .before .before .before .before .before .before .before .before .before .before .put-word .ensures .0, c .before .before .before .before .before .before .before .put-tabbed .ensures .ends, c .before .before .before .put-tabbed2 .ensures .ends, c .before .before .before .before .before .before .before .before .before .before .before .put-word .kept .0, c .before .before .before .before .before .before .before .put-tabbed .kept .0, c .before .before .before .put-tabbed2 .kept .0, c .before .before .before .before .before .before .before .before .before .before .before .before .before .before .before .pre)
+put-last-requires c κs =
+    let c3 = c .before .before .before in
+    let c3 = c3 in
+    let c7 = c3 .before .before .before .before in
+    let c11 = c7 .before .before .before .before in
+    let c15 = c11 .before .before .before .before in
+    omega (arith, length-tabbed (c15 .args .r .stage), length-tabbed (c15 .args .r .nonzeros), c11 .put-word .ensures .0, c7 .put-tabbed .ensures .ends, c3 .put-tabbed2 .ensures .ends, c11 .put-word .kept .0, c7 .put-tabbed .kept .0, c3 .put-tabbed2 .kept .0, c15 .pre)
 
 same-length : tie.Need-same-length
 same-length c = search needs
 
 returns : tie.Need-returns
-returns c = ok-wrote (c .before .before .before .before .before .before .before .before .before .before .before .before .before .before .before .before .before .before .args .r) (c .before .before .before .before .before .before .before .before .before .before .before .before .before .before .before .before .before .before .args .out .now) (c .before .before .before .before .before .before .before .before .before .before .before .before .before .before .put-word .result) (c .before .before .before .before .before .before .before .before .before .before .before .before .before .before .put-word .last .0) (c .before .before .before .before .before .before .before .before .before .before .put-tabbed .result) (c .before .before .before .before .before .before .before .before .before .before .put-tabbed .last .0) (c .before .before .before .before .before .before .put-tabbed2 .result) (c .before .before .before .before .before .before .put-tabbed2 .last .0) (c .before .before .put-last .result) (c .before .before .put-last .last .0) (c .before .before .before .before .before .before .before .before .before .before .before .before .before .before .before .before .before .before .pre) (c .before .before .before .before .before .before .before .before .before .before .before .before .before .before .put-word .kept .0) (c .before .before .before .before .before .before .before .before .before .before .put-tabbed .kept .0 ∙ c .before .before .before .before .before .before .before .before .before .before .before .before .before .before .put-word .kept .0) (c .before .before .before .before .before .before .before .before .before .before .before .before .before .before .put-word .ensures) (c .before .before .before .before .before .before .before .before .before .before .put-tabbed .ensures) (c .before .before .before .before .before .before .put-tabbed2 .ensures) (c .before .before .put-last .ensures)
+returns c =
+    let c2 = c .before .before in
+    let c2 = c2 in
+    let c6 = c2 .before .before .before .before in
+    let c10 = c6 .before .before .before .before in
+    let c14 = c10 .before .before .before .before in
+    let c18 = c14 .before .before .before .before in
+    ok-wrote (c18 .args .r) (c18 .args .out .now) (c14 .put-word .result) (c14 .put-word .last .0) (c10 .put-tabbed .result) (c10 .put-tabbed .last .0) (c6 .put-tabbed2 .result) (c6 .put-tabbed2 .last .0) (c2 .put-last .result) (c2 .put-last .last .0) (c18 .pre) (c14 .put-word .kept .0) (c10 .put-tabbed .kept .0 ∙ c14 .put-word .kept .0) (c14 .put-word .ensures) (c10 .put-tabbed .ensures) (c6 .put-tabbed2 .ensures) (c2 .put-last .ensures)
 
 pub put-ok-spec : {M : Type 1} → statement M
 put-ok-spec =

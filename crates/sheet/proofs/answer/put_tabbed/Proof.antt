@@ -20,7 +20,11 @@ same-length : tie.Need-same-length
 same-length c = search needs
 
 returns : tie.Need-returns
-returns c = tabbed-wrote (c .before .before .before .before .before .before .before .before .before .before .args .x) (c .before .before .before .before .before .before .before .before .before .before .args .at) (c .before .before .before .before .before .before .before .before .before .before .args .out .now) (c .before .before .before .before .before .before .before .put-count .result) (c .before .before .before .before .before .before .before .put-count .last .0) (c .before .before .put-word .result) (c .before .before .put-word .last .0) (c .before .before .before .before .before .before .before .before .before .before .pre) (c .before .before .before .before .before .before .before .put-count .ensures) (c .before .before .put-word .ensures)
+returns c =
+    let c2 = c .before .before in
+    let c7 = c2 .before .before .before .before .before in
+    let c10 = c7 .before .before .before in
+    tabbed-wrote (c10 .args .x) (c10 .args .at) (c10 .args .out .now) (c7 .put-count .result) (c7 .put-count .last .0) (c2 .put-word .result) (c2 .put-word .last .0) (c10 .pre) (c7 .put-count .ensures) (c2 .put-word .ensures)
 
 pub put-tabbed-spec : {M : Type 1} → statement M
 put-tabbed-spec =

@@ -16,13 +16,23 @@ put-tabbed-requires : tie.Need-put-tabbed-requires
 put-tabbed-requires c κs = search needs
 
 put-last-requires : tie.Need-put-last-requires
-put-last-requires c κs = omega (arith, length-tabbed (c .before .before .before .before .before .before .before .before .before .before .before .args .j), c .before .before .before .before .before .before .before .put-word .ensures .0, c .before .before .before .put-tabbed .ensures .ends, c .before .before .before .before .before .before .before .put-word .kept .0, c .before .before .before .put-tabbed .kept .0, c .before .before .before .before .before .before .before .before .before .before .before .pre)
+put-last-requires c κs =
+    let c3 = c .before .before .before in
+    let c7 = c3 .before .before .before .before in
+    let c11 = c7 .before .before .before .before in
+    omega (arith, length-tabbed (c11 .args .j), c7 .put-word .ensures .0, c3 .put-tabbed .ensures .ends, c7 .put-word .kept .0, c3 .put-tabbed .kept .0, c11 .pre)
 
 same-length : tie.Need-same-length
 same-length c = search needs
 
 returns : tie.Need-returns
-returns c = weight-wrote (c .before .before .before .before .before .before .before .before .before .before .before .before .before .before .args .j) (c .before .before .before .before .before .before .before .before .before .before .before .before .before .before .args .w) (c .before .before .before .before .before .before .before .before .before .before .before .before .before .before .args .at) (c .before .before .before .before .before .before .before .before .before .before .before .before .before .before .args .out .now) (c .before .before .before .before .before .before .before .before .before .before .put-word .result) (c .before .before .before .before .before .before .before .before .before .before .put-word .last .0) (c .before .before .before .before .before .before .put-tabbed .result) (c .before .before .before .before .before .before .put-tabbed .last .0) (c .before .before .put-last .result) (c .before .before .put-last .last .0) (c .before .before .before .before .before .before .before .before .before .before .before .before .before .before .pre) (c .before .before .before .before .before .before .before .before .before .before .put-word .kept .0) (c .before .before .before .before .before .before .before .before .before .before .put-word .ensures) (c .before .before .before .before .before .before .put-tabbed .ensures) (c .before .before .put-last .ensures)
+returns c =
+    let c2 = c .before .before in
+    let c2 = c2 in
+    let c6 = c2 .before .before .before .before in
+    let c10 = c6 .before .before .before .before in
+    let c14 = c10 .before .before .before .before in
+    weight-wrote (c14 .args .j) (c14 .args .w) (c14 .args .at) (c14 .args .out .now) (c10 .put-word .result) (c10 .put-word .last .0) (c6 .put-tabbed .result) (c6 .put-tabbed .last .0) (c2 .put-last .result) (c2 .put-last .last .0) (c14 .pre) (c10 .put-word .kept .0) (c10 .put-word .ensures) (c6 .put-tabbed .ensures) (c2 .put-last .ensures)
 
 pub put-weight-spec : {M : Type 1} → statement M
 put-weight-spec =

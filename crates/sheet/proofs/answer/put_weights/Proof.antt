@@ -32,7 +32,12 @@ loop-less : tie.Need-loop-less Inv-loop μ-loop
 loop-less c = search needs
 
 loop-again : tie.Need-loop-again Inv-loop μ-loop
-loop-again c = lining-turn (c .before .before .put-weight .result) (c .before .before .put-weight .last .0) (c .before .before .before .before .before .before .loop .inv) (omega (arith, c .before .before .before .before .before .loop-test .taken)) (c .before .before .before .before .before .before .before .before .before .pre) (c .before .before .put-weight .kept .0) (c .before .before .put-weight .ensures)
+loop-again c =
+    let c2 = c .before .before in
+    let c5 = c2 .before .before .before in
+    let c6 = c5 .before in
+    let c9 = c6 .before .before .before in
+    lining-turn (c2 .put-weight .result) (c2 .put-weight .last .0) (c6 .loop .inv) (omega (arith, c5 .loop-test .taken)) (c9 .pre) (c2 .put-weight .kept .0) (c2 .put-weight .ensures)
 
 same-length : tie.Need-same-length Inv-loop μ-loop
 same-length c = c .before .loop .inv .same

@@ -8,13 +8,19 @@ enum-known-rule : tie.Need-enum-known-rule
 enum-known-rule c = search needs
 
 to-target-requires : tie.Need-to-target-requires
-to-target-requires c κs = (c .before .before .before .before .before .before .before .before .before .before .before .before .pre .0, target-some _ (rw (c .before .before .before .before .rule .given .1) at (c .before .before .before .before .before .before .before .before .before .before .before .before .pre .3)))
+to-target-requires c κs =
+    let c4 = c .before .before .before .before in
+    let c12 = c4 .before .before .before .before .before .before .before .before in
+    (c12 .pre .0, target-some _ (rw (c4 .rule .given .1) at (c12 .pre .3)))
 
 enum-known-rule-2 : tie.Need-enum-known-rule-2
 enum-known-rule-2 c = search needs
 
 to-allowance-requires : tie.Need-to-allowance-requires
-to-allowance-requires c κs = (c .before .before .before .before .before .before .before .before .before .before .before .before .before .pre .0, c .before .before .before .before .before .before .before .before .before .before .before .before .before .pre .1, c .before .before .before .before .before .before .before .before .before .before .before .before .before .pre .2, rw (c .before .before .before .before .before .rule2 .given .1) at (c .before .before .before .before .before .before .before .before .before .before .before .before .before .pre .3))
+to-allowance-requires c κs =
+    let c5 = c .before .before .before .before .before in
+    let c13 = c5 .before .before .before .before .before .before .before .before in
+    (c13 .pre .0, c13 .pre .1, c13 .pre .2, rw (c5 .rule2 .given .1) at (c13 .pre .3))
 
 same-length : tie.Need-same-length
 same-length c = search needs

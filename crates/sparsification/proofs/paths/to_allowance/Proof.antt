@@ -27,18 +27,29 @@ new-requires : tie.Need-new-requires Inv-loop μ-loop
 new-requires c κs = search needs
 
 loop-holds : tie.Need-loop-holds Inv-loop μ-loop
-loop-holds c = (rw (c .before .before .before .before .before .before .before .pre .1, c .new .ensures) (on-start (columnsOf (c .before .before .before .before .before .before .before .args .matrix .now) (c .before .before .before .before .before .before .before .args .n)) (c .before .before .before .before .before .before .before .args .n) (c .before .before .before .before .before .before .before .args .start .now) (c .before .before .before .before .before .before .before .args .seed) (Within (c .before .before .before .before .before .before .before .args .allowance) (c .before .before .before .before .before .before .before .args .cap))), opens (columnsOf (c .before .before .before .before .before .before .before .args .matrix .now) (c .before .before .before .before .before .before .before .args .n)) (c .before .before .before .before .before .before .before .args .n) (c .before .before .before .before .before .before .before .args .start .now) (c .before .before .before .before .before .before .before .args .seed) (c .before .before .before .before .before .before .before .args .allowance) (c .before .before .before .before .before .before .before .args .cap), refl, refl, refl)
+loop-holds c =
+    let c7 = c .before .before .before .before .before .before .before in
+    let c7 = c7 in
+    (rw (c7 .pre .1, c .new .ensures) (on-start (columnsOf (c7 .args .matrix .now) (c7 .args .n)) (c7 .args .n) (c7 .args .start .now) (c7 .args .seed) (Within (c7 .args .allowance) (c7 .args .cap))), opens (columnsOf (c7 .args .matrix .now) (c7 .args .n)) (c7 .args .n) (c7 .args .start .now) (c7 .args .seed) (c7 .args .allowance) (c7 .args .cap), refl, refl, refl)
 
 count-nonzeros-requires : tie.Need-count-nonzeros-requires Inv-loop μ-loop
 count-nonzeros-requires c κs = search needs
 
 try-pass-requires : tie.Need-try-pass-requires Inv-loop μ-loop
 try-pass-requires c κs =
-    let long = c .before .before .before .before .before .before .before .loop .inv .0 .long in
-    (ready-still (c .before .before .before .before .before .before .before .before .before .before .before .before .before .before .before .pre .0) (long ∙ sym (ap length (c .before .before .before .before .before .before .before .before .before .before .before .before .before .before .before .pre .1))) (c .before .before .before .before .before .before .before .loop .inv .3) (c .before .before .before .before .before .before .before .loop .inv .4), sym long, c .before .before .before .before .before .before .before .loop .inv .2 ∙ c .before .before .before .before .before .before .before .before .before .before .before .before .before .before .before .pre .2 ∙ ap length (c .before .before .before .before .before .before .before .before .before .before .before .before .before .before .before .pre .1) ∙ sym long, omega (arith, c .before .before .before .before .before .count-nonzeros .ensures, c .before .before .before .before .if1 .taken))
+    let c4 = c .before .before .before .before in
+    let c5 = c4 .before in
+    let c7 = c5 .before .before in
+    let c15 = c7 .before .before .before .before .before .before .before .before in
+    let long = c7 .loop .inv .0 .long in
+    (ready-still (c15 .pre .0) (long ∙ sym (ap length (c15 .pre .1))) (c7 .loop .inv .3) (c7 .loop .inv .4), sym long, c7 .loop .inv .2 ∙ c15 .pre .2 ∙ ap length (c15 .pre .1) ∙ sym long, omega (arith, c5 .count-nonzeros .ensures, c4 .if1 .taken))
 
 same-length : tie.Need-same-length Inv-loop μ-loop
-same-length c = c .before .before .before .before .before .before .before .before .before .before .try-pass .kept .1 .1 .1 .0 ∙ c .before .before .before .before .before .before .before .before .before .before .before .before .before .before .before .before .before .before .loop .inv .0 .long ∙ sym (ap length (c .before .before .before .before .before .before .before .before .before .before .before .before .before .before .before .before .before .before .before .before .before .before .before .before .before .before .pre .1))
+same-length c =
+    let c10 = c .before .before .before .before .before .before .before .before .before .before in
+    let c18 = c10 .before .before .before .before .before .before .before .before in
+    let c26 = c18 .before .before .before .before .before .before .before .before in
+    c10 .try-pass .kept .1 .1 .1 .0 ∙ c18 .loop .inv .0 .long ∙ sym (ap length (c26 .pre .1))
 
 same-length-2 : tie.Need-same-length-2 Inv-loop μ-loop
 same-length-2 c = search needs
@@ -51,27 +62,48 @@ same-length-4 c = search needs
 
 returns : tie.Need-returns Inv-loop μ-loop
 returns c =
-    let a = c .before .before .before .before .before .before .before .before .before .before .before .before .before .before .before .before .before .before .before .before .before .before .before .before .before .before .args in
-    rw (c .before .before .before .before .before .before .before .before .before .before .before .before .before .before .before .before .before .before .before .before .before .before .before .before .before .before .pre .1) (allowance-broke (columnsOf (a .matrix .now) (a .n)) (a .n) (a .start .now) (a .seed) (falling (columnsOf (a .matrix .now) (a .n)) (a .n) (a .start .now) (a .seed)) (c .before .before .before .before .before .before .before .before .before .before .before .before .before .before .before .before .before .before .before .before .before .before .before .before .before .before .pre .3) (c .before .before .before .before .before .before .before .before .before .before .before .before .before .before .before .before .before .before .loop .inv .0) (c .before .before .before .before .before .before .before .before .before .before .before .before .before .before .before .before .before .before .loop .inv .1) (rw (← c .before .before .before .before .before .before .before .before .before .before .before .before .before .before .before .before .count-nonzeros .ensures) (c .before .before .before .before .before .before .before .before .before .before .before .before .before .before .before .if1 .taken)) (c .before .before .before .before .before .before .before .before .before .before .try-pass .ensures) (not-true (c .before .before .before .before .before .before .before .before .before .before .try-pass .result .good) (c .if2 .taken)) _ refl)
+    let c10 = c .before .before .before .before .before .before .before .before .before .before in
+    let c15 = c10 .before .before .before .before .before in
+    let c16 = c15 .before in
+    let c18 = c16 .before .before in
+    let c26 = c18 .before .before .before .before .before .before .before .before in
+    let a = c26 .args in
+    rw (c26 .pre .1) (allowance-broke (columnsOf (a .matrix .now) (a .n)) (a .n) (a .start .now) (a .seed) (falling (columnsOf (a .matrix .now) (a .n)) (a .n) (a .start .now) (a .seed)) (c26 .pre .3) (c18 .loop .inv .0) (c18 .loop .inv .1) (rw (← c16 .count-nonzeros .ensures) (c15 .if1 .taken)) (c10 .try-pass .ensures) (not-true (c10 .try-pass .result .good) (c .if2 .taken)) _ refl)
 
 add-stage : tie.Need-add-stage Inv-loop μ-loop
-add-stage c = omega (arith, c .before .before .before .before .before .before .before .before .before .before .before .before .before .before .before .before .before .before .before .loop .inv .0 .short, c .before .before .before .before .before .before .before .before .before .before .before .before .before .before .before .before .before .before .before .before .before .before .before .before .before .before .before .pre .0 .few, ap length (c .before .before .before .before .before .before .before .before .before .before .before .before .before .before .before .before .before .before .before .before .before .before .before .before .before .before .before .pre .1))
+add-stage c =
+    let c19 = c .before .before .before .before .before .before .before .before .before .before .before .before .before .before .before .before .before .before .before in
+    let c27 = c19 .before .before .before .before .before .before .before .before in
+    omega (arith, c19 .loop .inv .0 .short, c27 .pre .0 .few, ap length (c27 .pre .1))
 
 loop-less : tie.Need-loop-less Inv-loop μ-loop
 loop-less c =
-    let a = c .before .before .before .before .before .before .before .before .before .before .before .before .before .before .before .before .before .before .before .before .before .before .before .before .before .before .before .before .before .before .args in
-    let t = more-taken (columnsOf (a .matrix .now) (a .n)) (a .n) (a .start .now) (a .seed) (falling (columnsOf (a .matrix .now) (a .n)) (a .n) (a .start .now) (a .seed)) (c .before .before .before .before .before .before .before .before .before .before .before .before .before .before .before .before .before .before .before .before .before .before .before .before .before .before .before .before .before .before .pre .3) (c .before .before .before .before .before .before .before .before .before .before .before .before .before .before .before .before .before .before .before .before .before .before .loop .inv .0) (c .before .before .before .before .before .before .before .before .before .before .before .before .before .before .before .before .before .before .before .before .before .before .loop .inv .1) (rw (← c .before .before .before .before .before .before .before .before .before .before .before .before .before .before .before .before .before .before .before .before .count-nonzeros .ensures) (c .before .before .before .before .before .before .before .before .before .before .before .before .before .before .before .before .before .before .before .if1 .taken)) (c .before .before .before .before .before .before .before .before .before .before .before .before .before .before .try-pass .ensures) (not-false (c .before .before .before .before .before .before .before .before .before .before .before .before .before .before .try-pass .result .good) (c .before .before .before .before .if2 .left)) (not-false (c .before .before .before .before .before .before .before .before .before .before .before .before .before .before .try-pass .result .more) (c .before .if4 .left)) in
-    allowance-fewer (columnsOf (a .matrix .now) (a .n)) (a .n) (a .start .now) (a .seed) (falling (columnsOf (a .matrix .now) (a .n)) (a .n) (a .start .now) (a .seed)) (c .before .before .before .before .before .before .before .before .before .before .before .before .before .before .before .before .before .before .before .before .before .before .before .before .before .before .before .before .before .before .pre .3) (c .before .before .before .before .before .before .before .before .before .before .before .before .before .before .before .before .before .before .before .before .before .before .loop .inv .0) (c .before .before .before .before .before .before .before .before .before .before .before .before .before .before .before .before .before .before .before .before .before .before .loop .inv .1) (rw (← c .before .before .before .before .before .before .before .before .before .before .before .before .before .before .before .before .before .before .before .before .count-nonzeros .ensures) (c .before .before .before .before .before .before .before .before .before .before .before .before .before .before .before .before .before .before .before .if1 .taken)) (c .before .before .before .before .before .before .before .before .before .before .before .before .before .before .try-pass .ensures) (not-false (c .before .before .before .before .before .before .before .before .before .before .before .before .before .before .try-pass .result .good) (c .before .before .before .before .if2 .left)) t
+    let c4 = c .before .before .before .before in
+    let c14 = c4 .before .before .before .before .before .before .before .before .before .before in
+    let c19 = c14 .before .before .before .before .before in
+    let c20 = c19 .before in
+    let c22 = c20 .before .before in
+    let c30 = c22 .before .before .before .before .before .before .before .before in
+    let a = c30 .args in
+    let t = more-taken (columnsOf (a .matrix .now) (a .n)) (a .n) (a .start .now) (a .seed) (falling (columnsOf (a .matrix .now) (a .n)) (a .n) (a .start .now) (a .seed)) (c30 .pre .3) (c22 .loop .inv .0) (c22 .loop .inv .1) (rw (← c20 .count-nonzeros .ensures) (c19 .if1 .taken)) (c14 .try-pass .ensures) (not-false (c14 .try-pass .result .good) (c4 .if2 .left)) (not-false (c14 .try-pass .result .more) (c .before .if4 .left)) in
+    allowance-fewer (columnsOf (a .matrix .now) (a .n)) (a .n) (a .start .now) (a .seed) (falling (columnsOf (a .matrix .now) (a .n)) (a .n) (a .start .now) (a .seed)) (c30 .pre .3) (c22 .loop .inv .0) (c22 .loop .inv .1) (rw (← c20 .count-nonzeros .ensures) (c19 .if1 .taken)) (c14 .try-pass .ensures) (not-false (c14 .try-pass .result .good) (c4 .if2 .left)) t
 
 loop-again : tie.Need-loop-again Inv-loop μ-loop
 loop-again c =
-    let a = c .before .before .before .before .before .before .before .before .before .before .before .before .before .before .before .before .before .before .before .before .before .before .before .before .before .before .before .before .before .before .args in
-    let k = c .before .before .before .before .before .before .before .before .before .before .before .before .before .before .try-pass .kept in
-    let t = more-taken (columnsOf (a .matrix .now) (a .n)) (a .n) (a .start .now) (a .seed) (falling (columnsOf (a .matrix .now) (a .n)) (a .n) (a .start .now) (a .seed)) (c .before .before .before .before .before .before .before .before .before .before .before .before .before .before .before .before .before .before .before .before .before .before .before .before .before .before .before .before .before .before .pre .3) (c .before .before .before .before .before .before .before .before .before .before .before .before .before .before .before .before .before .before .before .before .before .before .loop .inv .0) (c .before .before .before .before .before .before .before .before .before .before .before .before .before .before .before .before .before .before .before .before .before .before .loop .inv .1) (rw (← c .before .before .before .before .before .before .before .before .before .before .before .before .before .before .before .before .before .before .before .before .count-nonzeros .ensures) (c .before .before .before .before .before .before .before .before .before .before .before .before .before .before .before .before .before .before .before .if1 .taken)) (c .before .before .before .before .before .before .before .before .before .before .before .before .before .before .try-pass .ensures) (not-false (c .before .before .before .before .before .before .before .before .before .before .before .before .before .before .try-pass .result .good) (c .before .before .before .before .if2 .left)) (not-false (c .before .before .before .before .before .before .before .before .before .before .before .before .before .before .try-pass .result .more) (c .before .if4 .left)) in
+    let c3 = c .before .before .before in
+    let c4 = c3 .before in
+    let c14 = c4 .before .before .before .before .before .before .before .before .before .before in
+    let c19 = c14 .before .before .before .before .before in
+    let c20 = c19 .before in
+    let c22 = c20 .before .before in
+    let c30 = c22 .before .before .before .before .before .before .before .before in
+    let a = c30 .args in
+    let k = c14 .try-pass .kept in
+    let t = more-taken (columnsOf (a .matrix .now) (a .n)) (a .n) (a .start .now) (a .seed) (falling (columnsOf (a .matrix .now) (a .n)) (a .n) (a .start .now) (a .seed)) (c30 .pre .3) (c22 .loop .inv .0) (c22 .loop .inv .1) (rw (← c20 .count-nonzeros .ensures) (c19 .if1 .taken)) (c14 .try-pass .ensures) (not-false (c14 .try-pass .result .good) (c4 .if2 .left)) (not-false (c14 .try-pass .result .more) (c .before .if4 .left)) in
     ⊎-elim
-    (λ v. rw (v .1) (allowance-on (columnsOf (a .matrix .now) (a .n)) (a .n) (a .start .now) (a .seed) (falling (columnsOf (a .matrix .now) (a .n)) (a .n) (a .start .now) (a .seed)) (c .before .before .before .before .before .before .before .before .before .before .before .before .before .before .before .before .before .before .before .before .before .before .before .before .before .before .before .before .before .before .pre .3) (c .before .before .before .before .before .before .before .before .before .before .before .before .before .before .before .before .before .before .before .before .before .before .loop .inv .0) (c .before .before .before .before .before .before .before .before .before .before .before .before .before .before .before .before .before .before .before .before .before .before .loop .inv .1) (rw (← c .before .before .before .before .before .before .before .before .before .before .before .before .before .before .before .before .before .before .before .before .count-nonzeros .ensures) (c .before .before .before .before .before .before .before .before .before .before .before .before .before .before .before .before .before .before .before .if1 .taken)) (c .before .before .before .before .before .before .before .before .before .before .before .before .before .before .try-pass .ensures) (not-false (c .before .before .before .before .before .before .before .before .before .before .before .before .before .before .try-pass .result .good) (c .before .before .before .before .if2 .left)) t, allowance-goes (columnsOf (a .matrix .now) (a .n)) (a .n) (a .start .now) (a .seed) (falling (columnsOf (a .matrix .now) (a .n)) (a .n) (a .start .now) (a .seed)) (c .before .before .before .before .before .before .before .before .before .before .before .before .before .before .before .before .before .before .before .before .before .before .before .before .before .before .before .before .before .before .pre .3) (c .before .before .before .before .before .before .before .before .before .before .before .before .before .before .before .before .before .before .before .before .before .before .loop .inv .0) (c .before .before .before .before .before .before .before .before .before .before .before .before .before .before .before .before .before .before .before .before .before .before .loop .inv .1) (rw (← c .before .before .before .before .before .before .before .before .before .before .before .before .before .before .before .before .before .before .before .before .count-nonzeros .ensures) (c .before .before .before .before .before .before .before .before .before .before .before .before .before .before .before .before .before .before .before .if1 .taken)) (c .before .before .before .before .before .before .before .before .before .before .before .before .before .before .try-pass .ensures) (not-false (c .before .before .before .before .before .before .before .before .before .before .before .before .before .before .try-pass .result .good) (c .before .before .before .before .if2 .left)) t (not-false (c .before .before .before .before .before .before .before .before .before .before .before .before .before .before .try-pass .result .more) (c .before .if4 .left)), k .1 .1 .1 .1 .0 ∙ c .before .before .before .before .before .before .before .before .before .before .before .before .before .before .before .before .before .before .before .before .before .before .loop .inv .2, k .1 .1 .1 .1 .1 .0 ∙ c .before .before .before .before .before .before .before .before .before .before .before .before .before .before .before .before .before .before .before .before .before .before .loop .inv .3, k .1 .1 .1 .1 .1 .1 .0 ∙ c .before .before .before .before .before .before .before .before .before .before .before .before .before .before .before .before .before .before .before .before .before .before .loop .inv .4))
-    (λ v. never (c .before .before .before .before .before .before .before .before .before .before .before .before .before .before .try-pass .result .taken) t (v .0 .left))
-    (c .before .before .before .if3 .came)
+    (λ v. rw (v .1) (allowance-on (columnsOf (a .matrix .now) (a .n)) (a .n) (a .start .now) (a .seed) (falling (columnsOf (a .matrix .now) (a .n)) (a .n) (a .start .now) (a .seed)) (c30 .pre .3) (c22 .loop .inv .0) (c22 .loop .inv .1) (rw (← c20 .count-nonzeros .ensures) (c19 .if1 .taken)) (c14 .try-pass .ensures) (not-false (c14 .try-pass .result .good) (c4 .if2 .left)) t, allowance-goes (columnsOf (a .matrix .now) (a .n)) (a .n) (a .start .now) (a .seed) (falling (columnsOf (a .matrix .now) (a .n)) (a .n) (a .start .now) (a .seed)) (c30 .pre .3) (c22 .loop .inv .0) (c22 .loop .inv .1) (rw (← c20 .count-nonzeros .ensures) (c19 .if1 .taken)) (c14 .try-pass .ensures) (not-false (c14 .try-pass .result .good) (c4 .if2 .left)) t (not-false (c14 .try-pass .result .more) (c .before .if4 .left)), k .1 .1 .1 .1 .0 ∙ c22 .loop .inv .2, k .1 .1 .1 .1 .1 .0 ∙ c22 .loop .inv .3, k .1 .1 .1 .1 .1 .1 .0 ∙ c22 .loop .inv .4))
+    (λ v. never (c14 .try-pass .result .taken) t (v .0 .left))
+    (c3 .if3 .came)
 
 same-length-5 : tie.Need-same-length-5 Inv-loop μ-loop
 same-length-5 c = c .before .before .before .loop .inv .0 .long ∙ sym (ap length (c .before .before .before .before .before .before .before .before .before .before .before .pre .1))
@@ -87,11 +119,17 @@ same-length-8 c = search needs
 
 returns-2 : tie.Need-returns-2 Inv-loop μ-loop
 returns-2 c =
-    let a = c .before .before .before .before .before .before .before .before .before .before .before .args in
-    rw (c .before .before .before .before .before .before .before .before .before .before .before .pre .1) (allowance-met (columnsOf (a .matrix .now) (a .n)) (a .n) (a .start .now) (a .seed) (falling (columnsOf (a .matrix .now) (a .n)) (a .n) (a .start .now) (a .seed)) (c .before .before .before .before .before .before .before .before .before .before .before .pre .3) (c .before .before .before .loop .inv .0) (rw (← c .before .count-nonzeros .ensures) (c .if1 .left)) _ refl refl)
+    let c3 = c .before .before .before in
+    let c11 = c3 .before .before .before .before .before .before .before .before in
+    let a = c11 .args in
+    rw (c11 .pre .1) (allowance-met (columnsOf (a .matrix .now) (a .n)) (a .n) (a .start .now) (a .seed) (falling (columnsOf (a .matrix .now) (a .n)) (a .n) (a .start .now) (a .seed)) (c11 .pre .3) (c3 .loop .inv .0) (rw (← c .before .count-nonzeros .ensures) (c .if1 .left)) _ refl refl)
 
 same-length-9 : tie.Need-same-length-9 Inv-loop μ-loop
-same-length-9 c = c .before .before .before .before .before .before .before .before .before .before .before .before .before .try-pass .kept .1 .1 .1 .0 ∙ c .before .before .before .before .before .before .before .before .before .before .before .before .before .before .before .before .before .before .before .before .before .loop .inv .0 .long ∙ sym (ap length (c .before .before .before .before .before .before .before .before .before .before .before .before .before .before .before .before .before .before .before .before .before .before .before .before .before .before .before .before .before .pre .1))
+same-length-9 c =
+    let c13 = c .before .before .before .before .before .before .before .before .before .before .before .before .before in
+    let c21 = c13 .before .before .before .before .before .before .before .before in
+    let c29 = c21 .before .before .before .before .before .before .before .before in
+    c13 .try-pass .kept .1 .1 .1 .0 ∙ c21 .loop .inv .0 .long ∙ sym (ap length (c29 .pre .1))
 
 same-length-10 : tie.Need-same-length-10 Inv-loop μ-loop
 same-length-10 c = search needs
@@ -104,12 +142,19 @@ same-length-12 c = search needs
 
 returns-3 : tie.Need-returns-3 Inv-loop μ-loop
 returns-3 c =
-    let a = c .before .before .before .before .before .before .before .before .before .before .before .before .before .before .before .before .before .before .before .before .before .before .before .before .before .before .before .before .before .args in
-    rw (c .before .before .before .before .before .before .before .before .before .before .before .before .before .before .before .before .before .before .before .before .before .before .before .before .before .before .before .before .before .pre .1)
+    let c2 = c .before .before in
+    let c3 = c2 .before in
+    let c13 = c3 .before .before .before .before .before .before .before .before .before .before in
+    let c18 = c13 .before .before .before .before .before in
+    let c19 = c18 .before in
+    let c21 = c19 .before .before in
+    let c29 = c21 .before .before .before .before .before .before .before .before in
+    let a = c29 .args in
+    rw (c29 .pre .1)
     (⊎-elim
-    (λ v. allowance-last (columnsOf (a .matrix .now) (a .n)) (a .n) (a .start .now) (a .seed) (falling (columnsOf (a .matrix .now) (a .n)) (a .n) (a .start .now) (a .seed)) (c .before .before .before .before .before .before .before .before .before .before .before .before .before .before .before .before .before .before .before .before .before .before .before .before .before .before .before .before .before .pre .3) (c .before .before .before .before .before .before .before .before .before .before .before .before .before .before .before .before .before .before .before .before .before .loop .inv .0) (c .before .before .before .before .before .before .before .before .before .before .before .before .before .before .before .before .before .before .before .before .before .loop .inv .1) (rw (← c .before .before .before .before .before .before .before .before .before .before .before .before .before .before .before .before .before .before .before .count-nonzeros .ensures) (c .before .before .before .before .before .before .before .before .before .before .before .before .before .before .before .before .before .before .if1 .taken)) (c .before .before .before .before .before .before .before .before .before .before .before .before .before .try-pass .ensures) (not-false (c .before .before .before .before .before .before .before .before .before .before .before .before .before .try-pass .result .good) (c .before .before .before .if2 .left)) (v .0 .taken) (not-true (c .before .before .before .before .before .before .before .before .before .before .before .before .before .try-pass .result .more) (c .if4 .taken)) _ refl (v .1))
-    (λ v. allowance-left (columnsOf (a .matrix .now) (a .n)) (a .n) (a .start .now) (a .seed) (falling (columnsOf (a .matrix .now) (a .n)) (a .n) (a .start .now) (a .seed)) (c .before .before .before .before .before .before .before .before .before .before .before .before .before .before .before .before .before .before .before .before .before .before .before .before .before .before .before .before .before .pre .3) (c .before .before .before .before .before .before .before .before .before .before .before .before .before .before .before .before .before .before .before .before .before .loop .inv .0) (c .before .before .before .before .before .before .before .before .before .before .before .before .before .before .before .before .before .before .before .before .before .loop .inv .1) (rw (← c .before .before .before .before .before .before .before .before .before .before .before .before .before .before .before .before .before .before .before .count-nonzeros .ensures) (c .before .before .before .before .before .before .before .before .before .before .before .before .before .before .before .before .before .before .if1 .taken)) (c .before .before .before .before .before .before .before .before .before .before .before .before .before .try-pass .ensures) (not-false (c .before .before .before .before .before .before .before .before .before .before .before .before .before .try-pass .result .good) (c .before .before .before .if2 .left)) (v .0 .left) _ refl (v .1))
-    (c .before .before .if3 .came))
+    (λ v. allowance-last (columnsOf (a .matrix .now) (a .n)) (a .n) (a .start .now) (a .seed) (falling (columnsOf (a .matrix .now) (a .n)) (a .n) (a .start .now) (a .seed)) (c29 .pre .3) (c21 .loop .inv .0) (c21 .loop .inv .1) (rw (← c19 .count-nonzeros .ensures) (c18 .if1 .taken)) (c13 .try-pass .ensures) (not-false (c13 .try-pass .result .good) (c3 .if2 .left)) (v .0 .taken) (not-true (c13 .try-pass .result .more) (c .if4 .taken)) _ refl (v .1))
+    (λ v. allowance-left (columnsOf (a .matrix .now) (a .n)) (a .n) (a .start .now) (a .seed) (falling (columnsOf (a .matrix .now) (a .n)) (a .n) (a .start .now) (a .seed)) (c29 .pre .3) (c21 .loop .inv .0) (c21 .loop .inv .1) (rw (← c19 .count-nonzeros .ensures) (c18 .if1 .taken)) (c13 .try-pass .ensures) (not-false (c13 .try-pass .result .good) (c3 .if2 .left)) (v .0 .left) _ refl (v .1))
+    (c2 .if3 .came))
 
 pub to-allowance-spec : {M : Type 1} → statement M
 to-allowance-spec =

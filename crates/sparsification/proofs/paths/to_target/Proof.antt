@@ -24,13 +24,20 @@ new-requires : tie.Need-new-requires Inv-loop μ-loop
 new-requires c κs = search needs
 
 loop-holds : tie.Need-loop-holds Inv-loop μ-loop
-loop-holds c = (rw (c .new .ensures) (on-start (columnsOf (c .before .before .before .before .before .args .matrix .now) (c .before .before .before .before .before .args .n)) (c .before .before .before .before .before .args .n) (c .before .before .before .before .before .args .w .now) (c .before .before .before .before .before .args .seed) (Target (c .before .before .before .before .before .args .target))), refl, refl)
+loop-holds c =
+    let c5 = c .before .before .before .before .before in
+    (rw (c .new .ensures) (on-start (columnsOf (c5 .args .matrix .now) (c5 .args .n)) (c5 .args .n) (c5 .args .w .now) (c5 .args .seed) (Target (c5 .args .target))), refl, refl)
 
 count-nonzeros-requires : tie.Need-count-nonzeros-requires Inv-loop μ-loop
 count-nonzeros-requires c κs = search needs
 
 halving-pass-requires : tie.Need-halving-pass-requires Inv-loop μ-loop
-halving-pass-requires c κs = (ready-still (c .before .before .before .before .before .before .before .before .before .before .before .before .pre .0) (c .before .before .before .before .before .before .loop .inv .0 .long) (c .before .before .before .before .before .before .loop .inv .1) (c .before .before .before .before .before .before .loop .inv .2), omega (arith, c .before .before .before .before .count-nonzeros .ensures, c .before .before .before .if1 .taken, c .before .before .before .before .before .before .before .before .before .before .before .before .pre .1))
+halving-pass-requires c κs =
+    let c3 = c .before .before .before in
+    let c4 = c3 .before in
+    let c6 = c4 .before .before in
+    let c12 = c6 .before .before .before .before .before .before in
+    (ready-still (c12 .pre .0) (c6 .loop .inv .0 .long) (c6 .loop .inv .1) (c6 .loop .inv .2), omega (arith, c4 .count-nonzeros .ensures, c3 .if1 .taken, c12 .pre .1))
 
 same-length : tie.Need-same-length Inv-loop μ-loop
 same-length c = search needs
@@ -43,22 +50,40 @@ same-length-3 c = search needs
 
 returns : tie.Need-returns Inv-loop μ-loop
 returns c =
-    let a = c .before .before .before .before .before .before .before .before .before .before .before .before .before .before .before .before .before .before .before .before .before .args in
-    target-broke (columnsOf (a .matrix .now) (a .n)) (a .n) (a .w .now) (a .seed) (falling (columnsOf (a .matrix .now) (a .n)) (a .n) (a .w .now) (a .seed)) (c .before .before .before .before .before .before .before .before .before .before .before .before .before .before .before .before .before .before .before .before .before .pre .1) (c .before .before .before .before .before .before .before .before .before .before .before .before .before .before .before .loop .inv .0) (rw (← c .before .before .before .before .before .before .before .before .before .before .before .before .before .count-nonzeros .ensures) (c .before .before .before .before .before .before .before .before .before .before .before .before .if1 .taken)) (c .before .before .before .before .before .before .before .before .halving-pass .ensures) (not-true (c .before .before .before .before .before .before .before .before .halving-pass .result .good) (c .if2 .taken)) _ refl
+    let c8 = c .before .before .before .before .before .before .before .before in
+    let c12 = c8 .before .before .before .before in
+    let c13 = c12 .before in
+    let c15 = c13 .before .before in
+    let c21 = c15 .before .before .before .before .before .before in
+    let a = c21 .args in
+    target-broke (columnsOf (a .matrix .now) (a .n)) (a .n) (a .w .now) (a .seed) (falling (columnsOf (a .matrix .now) (a .n)) (a .n) (a .w .now) (a .seed)) (c21 .pre .1) (c15 .loop .inv .0) (rw (← c13 .count-nonzeros .ensures) (c12 .if1 .taken)) (c8 .halving-pass .ensures) (not-true (c8 .halving-pass .result .good) (c .if2 .taken)) _ refl
 
 add-stage : tie.Need-add-stage Inv-loop μ-loop
-add-stage c = omega (arith, c .before .before .before .before .before .before .before .before .before .before .before .before .before .before .before .before .loop .inv .0 .short, c .before .before .before .before .before .before .before .before .before .before .before .before .before .before .before .before .before .before .before .before .before .before .pre .0 .few)
+add-stage c =
+    let c16 = c .before .before .before .before .before .before .before .before .before .before .before .before .before .before .before .before in
+    let c22 = c16 .before .before .before .before .before .before in
+    omega (arith, c16 .loop .inv .0 .short, c22 .pre .0 .few)
 
 loop-less : tie.Need-loop-less Inv-loop μ-loop
 loop-less c =
-    let a = c .before .before .before .before .before .before .before .before .before .before .before .before .before .before .before .before .before .before .before .before .before .before .args in
-    target-fewer (columnsOf (a .matrix .now) (a .n)) (a .n) (a .w .now) (a .seed) (falling (columnsOf (a .matrix .now) (a .n)) (a .n) (a .w .now) (a .seed)) (c .before .before .before .before .before .before .before .before .before .before .before .before .before .before .before .before .before .before .before .before .before .before .pre .1) (c .before .before .before .before .before .before .before .before .before .before .before .before .before .before .before .before .loop .inv .0) (rw (← c .before .before .before .before .before .before .before .before .before .before .before .before .before .before .count-nonzeros .ensures) (c .before .before .before .before .before .before .before .before .before .before .before .before .before .if1 .taken)) (c .before .before .before .before .before .before .before .before .before .halving-pass .ensures) (not-false (c .before .before .before .before .before .before .before .before .before .halving-pass .result .good) (c .before .if2 .left))
+    let c9 = c .before .before .before .before .before .before .before .before .before in
+    let c13 = c9 .before .before .before .before in
+    let c14 = c13 .before in
+    let c16 = c14 .before .before in
+    let c22 = c16 .before .before .before .before .before .before in
+    let a = c22 .args in
+    target-fewer (columnsOf (a .matrix .now) (a .n)) (a .n) (a .w .now) (a .seed) (falling (columnsOf (a .matrix .now) (a .n)) (a .n) (a .w .now) (a .seed)) (c22 .pre .1) (c16 .loop .inv .0) (rw (← c14 .count-nonzeros .ensures) (c13 .if1 .taken)) (c9 .halving-pass .ensures) (not-false (c9 .halving-pass .result .good) (c .before .if2 .left))
 
 loop-again : tie.Need-loop-again Inv-loop μ-loop
 loop-again c =
-    let a = c .before .before .before .before .before .before .before .before .before .before .before .before .before .before .before .before .before .before .before .before .before .before .args in
-    let k = c .before .before .before .before .before .before .before .before .before .halving-pass .kept in
-    (target-next (columnsOf (a .matrix .now) (a .n)) (a .n) (a .w .now) (a .seed) (falling (columnsOf (a .matrix .now) (a .n)) (a .n) (a .w .now) (a .seed)) (c .before .before .before .before .before .before .before .before .before .before .before .before .before .before .before .before .before .before .before .before .before .before .pre .1) (c .before .before .before .before .before .before .before .before .before .before .before .before .before .before .before .before .loop .inv .0) (rw (← c .before .before .before .before .before .before .before .before .before .before .before .before .before .before .count-nonzeros .ensures) (c .before .before .before .before .before .before .before .before .before .before .before .before .before .if1 .taken)) (c .before .before .before .before .before .before .before .before .before .halving-pass .ensures) (not-false (c .before .before .before .before .before .before .before .before .before .halving-pass .result .good) (c .before .if2 .left)), k .1 .1 .1 .0 ∙ c .before .before .before .before .before .before .before .before .before .before .before .before .before .before .before .before .loop .inv .1, k .1 .1 .1 .1 .0 ∙ c .before .before .before .before .before .before .before .before .before .before .before .before .before .before .before .before .loop .inv .2)
+    let c9 = c .before .before .before .before .before .before .before .before .before in
+    let c13 = c9 .before .before .before .before in
+    let c14 = c13 .before in
+    let c16 = c14 .before .before in
+    let c22 = c16 .before .before .before .before .before .before in
+    let a = c22 .args in
+    let k = c9 .halving-pass .kept in
+    (target-next (columnsOf (a .matrix .now) (a .n)) (a .n) (a .w .now) (a .seed) (falling (columnsOf (a .matrix .now) (a .n)) (a .n) (a .w .now) (a .seed)) (c22 .pre .1) (c16 .loop .inv .0) (rw (← c14 .count-nonzeros .ensures) (c13 .if1 .taken)) (c9 .halving-pass .ensures) (not-false (c9 .halving-pass .result .good) (c .before .if2 .left)), k .1 .1 .1 .0 ∙ c16 .loop .inv .1, k .1 .1 .1 .1 .0 ∙ c16 .loop .inv .2)
 
 same-length-4 : tie.Need-same-length-4 Inv-loop μ-loop
 same-length-4 c = search needs
@@ -71,8 +96,10 @@ same-length-6 c = search needs
 
 returns-2 : tie.Need-returns-2 Inv-loop μ-loop
 returns-2 c =
-    let a = c .before .before .before .before .before .before .before .before .before .args in
-    target-met (columnsOf (a .matrix .now) (a .n)) (a .n) (a .w .now) (a .seed) (falling (columnsOf (a .matrix .now) (a .n)) (a .n) (a .w .now) (a .seed)) (c .before .before .before .before .before .before .before .before .before .pre .1) (c .before .before .before .loop .inv .0) (rw (← c .before .count-nonzeros .ensures) (c .if1 .left)) _ refl refl
+    let c3 = c .before .before .before in
+    let c9 = c3 .before .before .before .before .before .before in
+    let a = c9 .args in
+    target-met (columnsOf (a .matrix .now) (a .n)) (a .n) (a .w .now) (a .seed) (falling (columnsOf (a .matrix .now) (a .n)) (a .n) (a .w .now) (a .seed)) (c9 .pre .1) (c3 .loop .inv .0) (rw (← c .before .count-nonzeros .ensures) (c .if1 .left)) _ refl refl
 
 pub to-target-spec : {M : Type 1} → statement M
 to-target-spec =
