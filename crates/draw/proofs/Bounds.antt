@@ -1,5 +1,5 @@
 -- Both bounds, at every draw: the uniform u = uniformAt n of each n below 2 ^ 53, and t = TAU * u, rounded once.
--- The logarithm of u and the cosine of t meet the records of specs/Bounds: the rules' laws, at the bits of u and of t.
+-- The logarithm of u and the cosine of t meet the records of their specs/Bounds: the rules' laws, at the bits of u and of t.
 use Prim.Native.Nat.{ℕ, _-_, _*_, _/_, _^_, _≤_, _<_}
 use mathlib.Core.Path.{_≡_}
 use mathlib.Core.Bool.{false}
@@ -10,12 +10,13 @@ use lib.IntN.{pos}
 use lib.Ieee.{fin, binary64, mul, toBits}
 use lib.Ieee.Fits.{mul-fits}
 use Rattle.draw.specs.Uniform.{uniformAt, uniformOf}
-use Rattle.draw.specs.Cosine.{size, negative, square, whole, cosOf, tau}
-use Rattle.draw.specs.Logarithm.{low, places, depth, lnOf}
+use Rattle.cosine.specs.Cosine.{size, negative, square, whole, cosOf, tau}
+use Rattle.logarithm.specs.Logarithm.{low, places, depth, lnOf}
 use Rattle.draw.specs.Gaussian.{lnOfDraw, cosOfDraw}
-use Rattle.draw.specs.Bounds.{CosineMeets, LogarithmMeets}
-use Rattle.draw.proofs.CosineBound.{cosine-40, cosine-42}
-use Rattle.draw.proofs.Logs.{logarithm-near}
+use Rattle.cosine.specs.Bounds.{CosineMeets}
+use Rattle.logarithm.specs.Bounds.{LogarithmMeets}
+use Rattle.cosine.proofs.CosineBound.{cosine-40, cosine-42}
+use Rattle.logarithm.proofs.Logs.{logarithm-near}
 use Rattle.draw.proofs.Values.{one, draw-bits, angle-bits, bits-value, cosine-value, size-le-one, logarithm-value, logarithm-of-one}
 use Rattle.draw.proofs.Uniforms.{uniform-range}
 

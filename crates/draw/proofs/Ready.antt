@@ -7,7 +7,7 @@ use lib.Dec.{lit<}
 use lib.Ieee.{binary64, mul, toBits}
 use Rattle.draw.specs.SplitMix.{advanced, folded, scrambled, mixed, outputOf}
 use Rattle.draw.specs.Uniform.{uniformOf}
-use Rattle.draw.specs.Cosine.{tau}
+use Rattle.cosine.specs.Cosine.{tau}
 use Rattle.draw.proofs.Values.{draw-bits, angle-bits}
 use Rattle.draw.proofs.Uniforms.{uniform-range}
 

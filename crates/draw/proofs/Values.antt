@@ -3,13 +3,13 @@
 use Prim.Native.Nat.{ℕ, suc, _+_, _-_, _*_, _/_, _%_, _^_, _≤_, _<_, min}
 use mathlib.Core.Path.{_≡_, refl, sym, ap, _∙_, subst}
 use mathlib.Core.Bool.{Bool, true, false, not, cond}
-use native.Mathlib.Nat.{not-le-of-lt, add-le-add, lt-of-not-le, le-div-iff-mul-le, mul-le-mul-right, zero-add, pow-suc, mod-eq-of-lt, le-refl, le-trans, le-of-lt, lt-of-le-of-lt, lt-of-lt-of-le, mul-pos, min-le-right, mul-assoc}
+use native.Mathlib.Nat.{add-le-add, lt-of-not-le, le-div-iff-mul-le, mul-le-mul-right, zero-add, pow-suc, mod-eq-of-lt, le-refl, le-trans, le-of-lt, lt-of-le-of-lt, lt-of-lt-of-le, mul-pos, min-le-right, mul-assoc}
 use native.Mathlib.Decide.{decLe}
 use native.Mathlib.Omega.{arith}
 use lib.Dec.{T, leb, eqb, eqb→eq, lit<, lit≤}
 use lib.IntN.{ℤ, pos, negsuc}
 use lib.Pow.{pow-pos, pow-add, pow-mono, shl-lt}
-use lib.Ieee.{Float, nan, inf, fin, binary64, up, down, neg, div, mul, ofInt, round, toBits, ofBits, isNan, ofFields, odd, fits, le}
+use lib.Ieee.{Float, nan, inf, fin, binary64, up, down, neg, div, mul, ofInt, round, toBits, ofBits, ofFields, odd, fits, le}
 use lib.Ieee as ieee
 use lib.Ieee.Digits.{size-lt, size-le, size-reaches}
 use lib.Ieee.Bits.{ofBits-toBits}
@@ -20,9 +20,9 @@ use lib.Ieee.Exact.{HasValue, round-exact, odd-sign}
 use lib.Ieee.Scale.{round-same}
 use lib.Ieee.Back.{round-whole}
 use lib.Ieee.Fits.{down-pos, kept-lt}
-use Rattle.draw.specs.Cosine.{sums, size, negative, square, unitOf, signed, cosineOf, whole, tau}
-use Rattle.draw.specs.Logarithm.{depth, lowered, logarithmOf, oddSum, ratio}
-use Rattle.draw.proofs.Upto.{div-grows}
+use Rattle.cosine.specs.Cosine.{sums, size, negative, square, unitOf, signed, cosineOf, whole, tau}
+use Rattle.logarithm.specs.Logarithm.{depth, lowered, logarithmOf, oddSum, ratio}
+use Rattle.divisors.proofs.Upto.{div-grows}
 
 -- w / 2 ^ k is a double, for a w of 53 bits
 pub quotient-value : (k w : ℕ) → k ≤ 1074 → w < 2 ^ 53 → HasValue (div binary64 (ofInt binary64 (pos w)) (fin false 1 (pos k))) false w (2 ^ k)
@@ -57,13 +57,6 @@ unfolding neg
 neg-value nan s a c v = v
 neg-value (inf t) s a c v = v
 neg-value (fin t m e) s a c v = (ap not (v .0), v .1)
-
--- what has the bits of TAU or smaller ones is no NaN
-pub number : (t : Float) → toBits binary64 t ≤ 0x401921FB54442D18 → T (not (isNan t))
-unfolding toBits isNan
-number nan h = absurd (not-le-of-lt (lit< tt) h)
-number (inf s) h = tt
-number (fin s m e) h = tt
 
 -- ---- the cosine: ±size / 2 ^ 51, and so within [-1, 1]
 

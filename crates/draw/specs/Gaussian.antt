@@ -6,8 +6,8 @@ use lib.Ieee.{Float, fin, binary64, mul, neg}
 use Rattle.ieee.specs.Root.{sqrtOf}
 use Rattle.draw.specs.SplitMix.{outputOf, afterOf}
 use Rattle.draw.specs.Uniform.{uniformOf}
-use Rattle.draw.specs.Cosine.{cosOf, tau}
-use Rattle.draw.specs.Logarithm.{lnOf}
+use Rattle.cosine.specs.Cosine.{cosOf, tau}
+use Rattle.logarithm.specs.Logarithm.{lnOf}
 
 -- the logarithm of the uniform of an output
 abbrev pub lnOfDraw : ℕ → Float

@@ -1,9 +1,4 @@
--- What the draws mean, in the order of reading; Bounds is what they are held to, and Turns what the series say within.
+-- What the draws mean, in the order of reading.
 pub mod SplitMix
 pub mod Uniform
-pub mod Divisors
-pub mod Cosine
-pub mod Logarithm
 pub mod Gaussian
-pub mod Bounds
-pub mod Turns

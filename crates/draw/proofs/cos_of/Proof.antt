@@ -3,7 +3,7 @@ use borrow.Author.Needs.{needs}
 use mathlib.Core.Path.{ap, _∙_}
 use native.Mathlib.Omega.{arith}
 use lib.Ieee.{Float, binary64, mul}
-use Rattle.draw.specs.Cosine.{cosOf, tau}
+use Rattle.cosine.specs.Cosine.{cosOf, tau}
 use Rattle.draw.proofs.Ready.{cos-ready}
 use Rattle.draw.proofs.cos_of.Statement.{statement}
 use Rattle.draw.proofs.cos_of.Tie as tie

@@ -2,7 +2,7 @@
 use borrow.Author.Needs.{needs}
 use mathlib.Core.Path.{ap, _∙_}
 use native.Mathlib.Omega.{arith}
-use Rattle.draw.specs.Logarithm.{lnOf}
+use Rattle.logarithm.specs.Logarithm.{lnOf}
 use Rattle.draw.proofs.Ready.{ln-ready}
 use Rattle.draw.proofs.ln_of.Statement.{statement}
 use Rattle.draw.proofs.ln_of.Tie as tie

@@ -8,10 +8,10 @@ use lib.Ieee.{Float, fin, binary64, mul, neg, ofBits}
 use Rattle.ieee.specs.Root.{sqrtOf}
 use Rattle.draw.specs.SplitMix.{outputOf, afterOf}
 use Rattle.draw.specs.Uniform.{uniformOf}
-use Rattle.draw.specs.Cosine.{cosOf, tau}
-use Rattle.draw.specs.Logarithm.{lnOf}
+use Rattle.cosine.specs.Cosine.{cosOf, tau}
+use Rattle.logarithm.specs.Logarithm.{lnOf}
 use Rattle.draw.specs.Gaussian.{gaussianOf}
-use Rattle.draw.proofs.CosTurns.{unit-is}
+use Rattle.cosine.proofs.CosTurns.{unit-is}
 use Rattle.draw.proofs.Ready.{ln-ready, cos-ready, output-lt}
 use Rattle.draw.proofs.SplitMix64.gaussian.Statement.{statement}
 use Rattle.draw.proofs.SplitMix64.gaussian.Tie as tie

@@ -1,0 +1,2 @@
+-- What the table of divisors holds.
+pub mod Divisors

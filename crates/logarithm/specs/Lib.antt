@@ -1,0 +1,4 @@
+-- What the logarithm means; Bounds is what it is held to, and Turns what its functions say within.
+pub mod Logarithm
+pub mod Bounds
+pub mod Turns
