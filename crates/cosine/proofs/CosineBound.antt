@@ -8,9 +8,10 @@ use native.Mathlib.Decide.{decLe}
 use native.Mathlib.Omega.{arith}
 use lib.Dec.{T, leb, lit<, lit≤, leb→le, nleb→lt}
 use Rattle.divisors.specs.Divisors.{divisor}
-use Rattle.cosine.specs.Cosine.{term, sums, size, negative, whole, scaled, square}
+use Rattle.terms.specs.Terms.{term, sums}
+use Rattle.cosine.specs.Cosine.{size, negative, whole, scaled, square}
 use Rattle.cosine.specs.Bounds.{under, exact, Within, Close}
-use Rattle.cosine.proofs.Cosines.{term-grows, zmax}
+use Rattle.terms.proofs.Cosines.{term-grows, zmax}
 use Rattle.cosine.proofs.CosineError.{Near, err, errs, errs-plus, errs-minus, wider, term-near, sums-near}
 use Rattle.cosine.proofs.CosineRange.{range}
 use Rattle.divisors.proofs.Upto.{div-grows}

@@ -5,9 +5,9 @@ use native.Mathlib.Nat.{le-refl, le-trans, mul-le-mul, mul-le-mul-left, mul-le-m
 use native.Mathlib.Omega.{arith}
 use lib.Dec.{lit<}
 use Rattle.divisors.specs.Divisors.{divisor}
-use Rattle.cosine.specs.Cosine.{term, sums}
+use Rattle.terms.specs.Terms.{term, sums}
 use Rattle.cosine.specs.Bounds.{under, exact}
-use Rattle.cosine.proofs.Cosines.{divisor-pos, term-small, zmax}
+use Rattle.terms.proofs.Cosines.{divisor-pos, term-small, zmax}
 
 -- a quotient of a quotient, from below and from above
 twice-below : (a b g : ℕ) → a / b / g * g * b ≤ a

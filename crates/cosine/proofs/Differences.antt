@@ -1,4 +1,5 @@
--- A difference of whole numbers, taken in doubles with 2 ^ 51 added to it, is the definition's quotient with its sign.
+-- A difference of whole numbers, taken in doubles with 2 ^ 51 added to it, is the definition's quotient with its sign;
+-- and of the last sums it is the cosine.
 use Prim.Native.Nat.{ℕ, zero, suc, _+_, _-_, _*_, _^_, _≤_, _<_, min}
 use mathlib.Core.Bool.{Bool, true, false, not, cond}
 use mathlib.Core.Path.{_≡_, refl, sym, ap, _∙_}
@@ -13,8 +14,10 @@ use lib.Ieee.Exact.{HasValue}
 use lib.Ieee.Scale.{round-same}
 use lib.Ieee.Back.{round-whole}
 use lib.Ieee.Fits.{down-pos}
-use Rattle.cosine.specs.Cosine.{unitOf, signed}
-use Rattle.cosine.specs.Turns.{differenceOf}
+use Rattle.terms.specs.declared.CosTerms.{CosTerms}
+use Rattle.terms.specs.Turns.{CosAt}
+use Rattle.cosine.specs.Cosine.{unitOf, signed, square, cosineOf}
+use Rattle.cosine.specs.Differences.{differenceOf}
 
 -- rounding is the same on both sides of zero
 odd-neg : (d q k l : ℕ) → neg (odd d false q k l) ≡ odd d true q k l
@@ -96,3 +99,9 @@ kept p m a v f s = cut (⊎-elim (λ w. w .1) (λ w. omega (arith, w .0, w .1)) 
   where
     cut : a ≡ p + 2 ^ 51 - m → ((a < 2 ^ 52) × (v ≡ a)) ⊎ ((2 ^ 52 ≤ a) × (v ≡ 2 ^ 52)) → v ≡ min (p + 2 ^ 51 - m) (2 ^ 52)
     cut e g = ⊎-elim (λ w. omega (arith, w .0, w .1, e)) (λ w. omega (arith, w .0, w .1, e)) g
+
+-- the difference of the last sums is the cosine of the double with the bits b
+pub unit-is : {s : CosTerms} {r : Float} (b : ℕ) → CosAt (square b) 20 s
+    → r ≡ differenceOf (s .plus) (s .minus) → r ≡ cosineOf b
+unfolding cosineOf
+unit-is b a h = h ∙ rw (a .plus-is, a .minus-is)

@@ -1,11 +1,11 @@
--- The cosine's rule, over whole numbers: 2 ^ 51 stands for 1 in a term and a sum, 2 ^ 58 for 1 in t * t.
+-- The cosine's rule, over whole numbers: 2 ^ 51 stands for 1 in a term and a sum, 2 ^ 58 for 1 in t * t. The terms and the sums are the crate terms's.
 -- b is the bits of the argument t, a double above zero that is not subnormal.
-use Prim.Native.Nat.{ℕ, zero, suc, _+_, _-_, _*_, _/_, _%_, _^_, min}
+use Prim.Native.Nat.{ℕ, _+_, _-_, _*_, _/_, _%_, _^_, min}
 use mathlib.Core.Bool.{Bool, true, false, not, cond}
 use lib.Dec.{leb}
 use lib.IntN.{pos}
 use lib.Ieee.{Float, fin, binary64, div, neg, ofInt, ofBits, toBits}
-use Rattle.divisors.specs.Divisors.{divisor}
+use Rattle.terms.specs.Terms.{sums}
 
 -- t is whole b / 2 ^ 1075
 abbrev pub whole : ℕ → ℕ
@@ -18,17 +18,6 @@ scaled b = whole b / 2 ^ 1014
 -- t * t * 2 ^ 58, rounded down
 abbrev pub square : ℕ → ℕ
 square b = scaled b * scaled b / 2 ^ 64
-
--- term z k stands for t ^ (2k) / (2k)!, each step rounded down; z is the square
-unfoldable pub term : ℕ → ℕ → ℕ
-term z zero = 2 ^ 51
-term z (suc k) = term z k * 64 * z / 2 ^ 64 / divisor k
-
--- the sum of the terms up to k that have the sign of term k, and the sum of the others
-unfoldable pub sums : ℕ → ℕ → ℕ × ℕ
-unfolding term
-sums z zero = (2 ^ 51, 0)
-sums z (suc k) = (sums z k .1 + term z (suc k), sums z k .0)
 
 -- the size of the cosine in units of 1 / 2 ^ 51, cut at 2 ^ 51
 abbrev pub size : ℕ → ℕ

@@ -1,4 +1,4 @@
--- What the cosine means; Bounds is what it is held to, and Turns what its functions say within.
+-- What the cosine means; Bounds is what it is held to, and Differences what its functions say within.
 pub mod Cosine
 pub mod Bounds
-pub mod Turns
+pub mod Differences

@@ -20,7 +20,8 @@ use lib.Ieee.Exact.{HasValue, round-exact, odd-sign}
 use lib.Ieee.Scale.{round-same}
 use lib.Ieee.Back.{round-whole}
 use lib.Ieee.Fits.{down-pos, kept-lt}
-use Rattle.cosine.specs.Cosine.{sums, size, negative, square, unitOf, signed, cosineOf, whole, tau}
+use Rattle.terms.specs.Terms.{sums}
+use Rattle.cosine.specs.Cosine.{size, negative, square, unitOf, signed, cosineOf, whole, tau}
 use Rattle.logarithm.specs.Logarithm.{depth, lowered, logarithmOf, oddSum, ratio}
 use Rattle.divisors.proofs.Upto.{div-grows}
 

@@ -1,6 +1,6 @@
 -- `cosine::cos` meets its contract: the two sums are the definition's, and so is their difference.
 use borrow.Author.Needs.{needs}
-use Rattle.cosine.proofs.CosTurns.{unit-is}
+use Rattle.cosine.proofs.Differences.{unit-is}
 use Rattle.cosine.proofs.cos.Statement.{statement}
 use Rattle.cosine.proofs.cos.Tie as tie
 

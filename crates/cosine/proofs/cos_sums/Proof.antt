@@ -5,8 +5,8 @@ use mathlib.Core.Path.{_≡_, ap, _∙_}
 use native.Mathlib.Nat.{le-trans, le-add-right, le-of-eq}
 use lib.Ieee.{binary64, toBits}
 use Rattle.cosine.specs.Cosine.{square}
-use Rattle.cosine.proofs.Cosines.{zmax}
-use Rattle.cosine.proofs.CosTurns.{plus-fits}
+use Rattle.terms.proofs.Cosines.{zmax}
+use Rattle.terms.proofs.CosTurns.{plus-fits}
 use Rattle.cosine.proofs.CosineBound.{square-le}
 use Rattle.divisors.proofs.Both.{number}
 use Rattle.cosine.proofs.cos_sums.Statement.{statement}

@@ -11,7 +11,7 @@ use Rattle.draw.specs.Uniform.{uniformOf}
 use Rattle.cosine.specs.Cosine.{cosOf, tau}
 use Rattle.logarithm.specs.Logarithm.{lnOf}
 use Rattle.draw.specs.Gaussian.{gaussianOf}
-use Rattle.cosine.proofs.CosTurns.{unit-is}
+use Rattle.cosine.proofs.Differences.{unit-is}
 use Rattle.draw.proofs.Ready.{ln-ready, cos-ready, output-lt}
 use Rattle.draw.proofs.SplitMix64.gaussian.Statement.{statement}
 use Rattle.draw.proofs.SplitMix64.gaussian.Tie as tie

@@ -1,12 +1,9 @@
--- What the cosine's own functions say to each other: where the series stands, and what one turn asks and does.
-use Prim.Native.Nat.{ℕ, _+_, _-_, _*_, _/_, _^_, _≤_, _<_, min}
-use mathlib.Core.Bool.{not, cond}
+-- What the series' own functions say to each other: where the series stands, and what one turn asks and does.
+use Prim.Native.Nat.{ℕ, _+_, _*_, _/_, _^_, _≤_, _<_}
 use mathlib.Core.Path.{_≡_}
-use lib.Dec.{leb}
-use lib.Ieee.{Float}
-use Rattle.cosine.specs.declared.CosTerms.{CosTerms}
-use Rattle.cosine.specs.declared.NearTerms.{NearTerms}
-use Rattle.cosine.specs.Cosine.{term, sums, signed, unitOf}
+use Rattle.terms.specs.declared.CosTerms.{CosTerms}
+use Rattle.terms.specs.declared.NearTerms.{NearTerms}
+use Rattle.terms.specs.Terms.{term, sums}
 
 -- s has the cosine's term k at the square z, and the two sums up to it
 pub record CosAt (z k : ℕ) (s : CosTerms) : Type 0 where
@@ -43,7 +40,3 @@ pub record NearTurned (z d : ℕ) (n r : NearTerms) : Type 0 where
   pub plus-is : r .terms .plus ≡ n .terms .minus + r .terms .term
   pub minus-is : r .terms .minus ≡ n .terms .plus
   pub sure : r .doubt < 2 ^ 63 → (n .doubt < 2 ^ 63) × (r .terms .term ≡ nextTerm z d (n .terms))
-
--- the difference of the two sums in units of 1 / 2 ^ 51, as a double with its sign, cut to -1 and 1
-abbrev pub differenceOf : ℕ → ℕ → Float
-differenceOf plus minus = signed (not (leb minus plus)) (unitOf (cond (leb minus plus) (min (plus - minus) (2 ^ 51)) (min (minus - plus) (2 ^ 51))))

@@ -1,17 +1,16 @@
 -- The turns of the cosine's series: each asks what holds at its term, and moves on to the next.
 use Prim.Native.Nat.{ℕ, suc, _+_, _*_, _/_, _^_, _≤_, _<_}
-use mathlib.Core.Path.{_≡_, refl, _∙_}
+use mathlib.Core.Path.{refl}
 use native.Mathlib.Nat.{lt-of-lt-of-le}
 use native.Mathlib.Omega.{arith}
 use lib.Dec.{lit≤, lit<}
-use lib.Ieee.{Float}
 use lib.ListN.{getD}
-use Rattle.cosine.specs.declared.CosTerms.{CosTerms}
+use Rattle.terms.specs.declared.CosTerms.{CosTerms}
 use Rattle.divisors.specs.Divisors.{divisor}
-use Rattle.cosine.specs.Cosine.{term, sums, square, cosineOf}
-use Rattle.cosine.specs.Turns.{CosAt, CosReady, CosTurned, differenceOf}
+use Rattle.terms.specs.Terms.{term, sums}
+use Rattle.terms.specs.Turns.{CosAt, CosReady, CosTurned}
 use Rattle.divisors.proofs.Divisors.{divisors, cosine-divisor}
-use Rattle.cosine.proofs.Cosines.{zmax, term-small, sum-small}
+use Rattle.terms.proofs.Cosines.{zmax, term-small, sum-small}
 
 pub first-on : (z : ℕ) → CosAt z 0 (record { term = 2 ^ 51; plus = 2 ^ 51; minus = 0 })
 unfolding term sums
@@ -40,9 +39,3 @@ ready {z} k l h a = let e = cosine-divisor k l in record {
 
 pub plus-fits : {z : ℕ} {s : CosTerms} → z ≤ zmax → CosAt z 20 s → s .plus < 2 ^ 62
 plus-fits {z} h a = rw (a .plus-is) (sum-small z h 20 (lit< tt))
-
--- their difference is the cosine of the double with the bits b
-pub unit-is : {s : CosTerms} {r : Float} (b : ℕ) → CosAt (square b) 20 s
-    → r ≡ differenceOf (s .plus) (s .minus) → r ≡ cosineOf b
-unfolding cosineOf
-unit-is b a h = h ∙ rw (a .plus-is, a .minus-is)

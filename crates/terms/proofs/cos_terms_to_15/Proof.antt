@@ -1,10 +1,10 @@
--- `cosine::cos_terms_to_15` meets its contract: five turns, each by the laws of a turn. at-k is where the series stands after its turn.
+-- `terms::cos_terms_to_15` meets its contract: five turns, each by the laws of a turn. at-k is where the series stands after its turn.
 use borrow.Author.Needs.{needs}
 use lib.Dec.{lit<}
-use Rattle.cosine.specs.Turns.{CosAt}
-use Rattle.cosine.proofs.CosTurns.{ready, stepped}
-use Rattle.cosine.proofs.cos_terms_to_15.Statement.{statement}
-use Rattle.cosine.proofs.cos_terms_to_15.Tie as tie
+use Rattle.terms.specs.Turns.{CosAt}
+use Rattle.terms.proofs.CosTurns.{ready, stepped}
+use Rattle.terms.proofs.cos_terms_to_15.Statement.{statement}
+use Rattle.terms.proofs.cos_terms_to_15.Tie as tie
 
 at-11 : (c : tie.After-cos-turn) → CosAt (c .before .before .args .z) 11 (c .cos-turn .result)
 at-11 c = stepped 10 (lit< tt) (c .before .cos-terms-to-10 .ensures) (c .cos-turn .ensures)

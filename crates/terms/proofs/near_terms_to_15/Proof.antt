@@ -1,10 +1,10 @@
--- `cosine::near_terms_to_15` meets its contract: five turns, each by the laws of a turn. at-k is where the series stands after its turn.
+-- `terms::near_terms_to_15` meets its contract: five turns, each by the laws of a turn. at-k is where the series stands after its turn.
 use borrow.Author.Needs.{needs}
 use lib.Dec.{lit≤, lit<}
-use Rattle.cosine.specs.Turns.{NearAt}
-use Rattle.cosine.proofs.NearTurns.{near-ready, near-stepped}
-use Rattle.cosine.proofs.near_terms_to_15.Statement.{statement}
-use Rattle.cosine.proofs.near_terms_to_15.Tie as tie
+use Rattle.terms.specs.Turns.{NearAt}
+use Rattle.terms.proofs.NearTurns.{near-ready, near-stepped}
+use Rattle.terms.proofs.near_terms_to_15.Statement.{statement}
+use Rattle.terms.proofs.near_terms_to_15.Tie as tie
 
 at-11 : (c : tie.After-near-turn) → NearAt (c .before .before .args .z) 11 (c .near-turn .result)
 at-11 c = near-stepped 10 (lit< tt) (c .before .near-terms-to-10 .ensures) (c .near-turn .ensures)

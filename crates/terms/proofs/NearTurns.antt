@@ -7,15 +7,15 @@ use native.Mathlib.Omega.{arith}
 use lib.Bits.{bitOr, or-add-and, and-le-l, and-le-r}
 use lib.Dec.{lit<, lit≤}
 use lib.ListN.{getD}
-use Rattle.cosine.specs.declared.CosTerms.{CosTerms}
-use Rattle.cosine.specs.declared.NearTerms.{NearTerms}
+use Rattle.terms.specs.declared.CosTerms.{CosTerms}
+use Rattle.terms.specs.declared.NearTerms.{NearTerms}
 use Rattle.divisors.specs.Divisors.{divisor}
-use Rattle.cosine.specs.Cosine.{term, sums}
-use Rattle.cosine.specs.Turns.{CosAt, CosReady, NearAt, NearTurned}
+use Rattle.terms.specs.Terms.{term, sums}
+use Rattle.terms.specs.Turns.{CosAt, CosReady, NearAt, NearTurned}
 use Rattle.divisors.proofs.Upto.{div-grows}
 use Rattle.divisors.proofs.Divisors.{divisors, cosine-divisor}
-use Rattle.cosine.proofs.Cosines.{zmax, divisor-pos, term-grows, term-small}
-use Rattle.cosine.proofs.CosTurns.{stepped, next-fits}
+use Rattle.terms.proofs.Cosines.{zmax, divisor-pos, term-grows, term-small}
+use Rattle.terms.proofs.CosTurns.{stepped, next-fits}
 
 -- ---- the share
 

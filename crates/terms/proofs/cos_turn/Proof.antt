@@ -1,9 +1,9 @@
--- `cosine::cos_turn` meets its contract: the upper word of the product, by the divisor, is the next term.
+-- `terms::cos_turn` meets its contract: the upper word of the product, by the divisor, is the next term.
 use borrow.Author.Needs.{needs}
 use mathlib.Core.Path.{refl}
 use mir.Facts.{fits-bits}
-use Rattle.cosine.proofs.cos_turn.Statement.{statement}
-use Rattle.cosine.proofs.cos_turn.Tie as tie
+use Rattle.terms.proofs.cos_turn.Statement.{statement}
+use Rattle.terms.proofs.cos_turn.Tie as tie
 
 mul-upper : tie.Need-mul-upper
 mul-upper c = search needs

@@ -1,12 +1,12 @@
--- `cosine::near_turn` meets its contract: the product with the share is never too large, and right where it leaves no doubt.
+-- `terms::near_turn` meets its contract: the product with the share is never too large, and right where it leaves no doubt.
 use borrow.Author.Needs.{needs}
 use Prim.Native.Nat.{ℕ, _<_}
 use native.Mathlib.Nat.{le-refl, add-le-add, lt-of-le-of-lt}
 use native.Mathlib.Omega.{arith}
 use mir.Facts.{fits-bits}
-use Rattle.cosine.proofs.NearTurns.{not-above, turned, reach-fits}
-use Rattle.cosine.proofs.near_turn.Statement.{statement}
-use Rattle.cosine.proofs.near_turn.Tie as tie
+use Rattle.terms.proofs.NearTurns.{not-above, turned, reach-fits}
+use Rattle.terms.proofs.near_turn.Statement.{statement}
+use Rattle.terms.proofs.near_turn.Tie as tie
 
 above : (d : ℕ) → 64 < d → 0 < d
 above d h = omega arith

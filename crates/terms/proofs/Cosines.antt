@@ -5,7 +5,7 @@ use native.Mathlib.Nat.{le-refl, mul-le-mul, mul-le-mul-right, add-le-add, lt-of
 use native.Mathlib.Omega.{arith}
 use lib.Dec.{ltb, lit<, ltb→lt}
 use Rattle.divisors.specs.Divisors.{divisor}
-use Rattle.cosine.specs.Cosine.{term, sums}
+use Rattle.terms.specs.Terms.{term, sums}
 use Rattle.divisors.proofs.Upto.{below, div-grows}
 
 pub divisor-pos : (k : ℕ) → 0 < divisor k

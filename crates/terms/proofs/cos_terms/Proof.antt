@@ -1,8 +1,8 @@
--- `cosine::cos_terms` meets its contract: without a doubt the terms are right, and with one the plain series is taken.
+-- `terms::cos_terms` meets its contract: without a doubt the terms are right, and with one the plain series is taken.
 use borrow.Author.Needs.{needs}
-use Rattle.cosine.proofs.NearTurns.{last-on}
-use Rattle.cosine.proofs.cos_terms.Statement.{statement}
-use Rattle.cosine.proofs.cos_terms.Tie as tie
+use Rattle.terms.proofs.NearTurns.{last-on}
+use Rattle.terms.proofs.cos_terms.Statement.{statement}
+use Rattle.terms.proofs.cos_terms.Tie as tie
 
 near-terms-to-19-requires : tie.Need-near-terms-to-19-requires
 near-terms-to-19-requires c κs = search needs

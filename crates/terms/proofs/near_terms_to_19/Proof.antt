@@ -1,10 +1,10 @@
--- `cosine::near_terms_to_19` meets its contract: four turns, each by the laws of a turn. at-k is where the series stands after its turn.
+-- `terms::near_terms_to_19` meets its contract: four turns, each by the laws of a turn. at-k is where the series stands after its turn.
 use borrow.Author.Needs.{needs}
 use lib.Dec.{lit≤, lit<}
-use Rattle.cosine.specs.Turns.{NearAt}
-use Rattle.cosine.proofs.NearTurns.{near-ready, near-stepped}
-use Rattle.cosine.proofs.near_terms_to_19.Statement.{statement}
-use Rattle.cosine.proofs.near_terms_to_19.Tie as tie
+use Rattle.terms.specs.Turns.{NearAt}
+use Rattle.terms.proofs.NearTurns.{near-ready, near-stepped}
+use Rattle.terms.proofs.near_terms_to_19.Statement.{statement}
+use Rattle.terms.proofs.near_terms_to_19.Tie as tie
 
 at-16 : (c : tie.After-near-turn) → NearAt (c .before .before .args .z) 16 (c .near-turn .result)
 at-16 c = near-stepped 15 (lit< tt) (c .before .near-terms-to-15 .ensures) (c .near-turn .ensures)

@@ -1,10 +1,10 @@
--- `cosine::cos_terms_to_5` meets its contract: five turns, each by the laws of a turn. at-k is where the series stands after its turn.
+-- `terms::cos_terms_to_5` meets its contract: five turns, each by the laws of a turn. at-k is where the series stands after its turn.
 use borrow.Author.Needs.{needs}
 use lib.Dec.{lit<}
-use Rattle.cosine.specs.Turns.{CosAt}
-use Rattle.cosine.proofs.CosTurns.{first-on, ready, stepped}
-use Rattle.cosine.proofs.cos_terms_to_5.Statement.{statement}
-use Rattle.cosine.proofs.cos_terms_to_5.Tie as tie
+use Rattle.terms.specs.Turns.{CosAt}
+use Rattle.terms.proofs.CosTurns.{first-on, ready, stepped}
+use Rattle.terms.proofs.cos_terms_to_5.Statement.{statement}
+use Rattle.terms.proofs.cos_terms_to_5.Tie as tie
 
 at-1 : (c : tie.After-cos-turn) → CosAt (c .before .args .z) 1 (c .cos-turn .result)
 at-1 c = stepped 0 (lit< tt) (first-on _) (c .cos-turn .ensures)

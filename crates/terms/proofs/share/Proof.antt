@@ -1,11 +1,11 @@
--- `cosine::share` meets its contract: the constant is the whole part of 2 ^ 70 / d.
+-- `terms::share` meets its contract: the constant is the whole part of 2 ^ 70 / d.
 use borrow.Author.Needs.{needs}
 use Prim.Native.Nat.{ℕ, _+_, _-_, _*_, _/_, _%_, _^_, _<_}
 use native.Mathlib.Nat.{mod-lt}
 use native.Mathlib.Omega.{arith}
-use Rattle.cosine.proofs.NearTurns.{constant, constant-fits, share-is}
-use Rattle.cosine.proofs.share.Statement.{statement}
-use Rattle.cosine.proofs.share.Tie as tie
+use Rattle.terms.proofs.NearTurns.{constant, constant-fits, share-is}
+use Rattle.terms.proofs.share.Statement.{statement}
+use Rattle.terms.proofs.share.Tie as tie
 
 above : (d : ℕ) → 64 < d → 0 < d
 above d h = omega arith

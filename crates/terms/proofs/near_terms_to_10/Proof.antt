@@ -1,10 +1,10 @@
--- `cosine::near_terms_to_10` meets its contract: five turns, each by the laws of a turn. at-k is where the series stands after its turn.
+-- `terms::near_terms_to_10` meets its contract: five turns, each by the laws of a turn. at-k is where the series stands after its turn.
 use borrow.Author.Needs.{needs}
 use lib.Dec.{lit≤, lit<}
-use Rattle.cosine.specs.Turns.{NearAt}
-use Rattle.cosine.proofs.NearTurns.{near-ready, near-stepped, started}
-use Rattle.cosine.proofs.near_terms_to_10.Statement.{statement}
-use Rattle.cosine.proofs.near_terms_to_10.Tie as tie
+use Rattle.terms.specs.Turns.{NearAt}
+use Rattle.terms.proofs.NearTurns.{near-ready, near-stepped, started}
+use Rattle.terms.proofs.near_terms_to_10.Statement.{statement}
+use Rattle.terms.proofs.near_terms_to_10.Tie as tie
 
 at-6 : (c : tie.After-near-turn) → NearAt (c .before .before .args .z) 6 (c .near-turn .result)
 at-6 c = near-stepped 5 (lit< tt) (started (c .before .cos-terms-to-5 .ensures)) (c .near-turn .ensures)
