@@ -20,8 +20,10 @@ use Rattle.entries.specs.Rows.{isSet, times}
 use Rattle.direction.specs.Constants.{one, minusOne}
 use Rattle.linear.specs.Vectors.{maxAbsOf}
 use Rattle.search.specs.Search.{Search, improves, flipped, sweepTo, sweptOf, searchTo, searched}
-use Rattle.coloring.specs.Coloring.{Between, roundedAt, roundedOff, phased, settled, walked, coloringOf}
-use Rattle.coloring.proofs.Places.{off, getD-any, length-putBack, back, back-at, back-other, count-before, none-passes}
+use Rattle.places.specs.Places.{roundedAt}
+use Rattle.phasing.specs.Phase.{Between, roundedOff, phased}
+use Rattle.coloring.specs.Coloring.{settled, walked, coloringOf}
+use Rattle.places.proofs.Places.{off, getD-any, length-putBack, back, back-at, back-other, count-before, none-passes}
 use Rattle.coloring.proofs.Marked.{Colour, negated, rounded, picked, run-keeps, Sound, all-free, phase-keeps}
 use Rattle.coloring.proofs.Phases.{insidePhase, put, walk-settles}
 use Rattle.walk.specs.Walk.{freeOnes}

@@ -26,8 +26,9 @@ use Rattle.direction.specs.Constants.{one, minusOne, freezeLimit}
 use Rattle.direction.specs.Step.{reachTo, moved, movedAt}
 use Rattle.freeze.specs.Freeze.{Walk, freezes, frozenAt, freezeTo}
 use Rattle.walk.proofs.Ending.{step-sound}
-use Rattle.coloring.proofs.Places.{off, getD-out, count-all}
-use Rattle.walk.specs.Walk.{begun, Stepped, drew, advanced, freeOnes, stepOf, steppedAlong, phaseOf, ended}
+use Rattle.places.proofs.Places.{off, getD-out, count-all}
+use Rattle.begin.specs.Begin.{begun}
+use Rattle.walk.specs.Walk.{Stepped, drew, advanced, freeOnes, stepOf, steppedAlong, phaseOf, ended}
 
 -- ---- one colour
 

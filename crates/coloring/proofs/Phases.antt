@@ -20,10 +20,13 @@ use Rattle.seq.proofs.Keeping.{length-keep, keep-short}
 use Rattle.seq.proofs.Loops.{enough}
 use Rattle.entries.specs.Rows.{isSet}
 use Rattle.freeze.specs.Freeze.{Walk}
-use Rattle.walk.specs.Walk.{begun, phaseOf, freeOnes}
-use Rattle.coloring.specs.Coloring.{Between, chosen, putBack, roundedOff, phased, settled, walked}
+use Rattle.begin.specs.Begin.{begun}
+use Rattle.walk.specs.Walk.{phaseOf, freeOnes}
+use Rattle.places.specs.Places.{chosen, putBack}
+use Rattle.phasing.specs.Phase.{Between, roundedOff, phased}
+use Rattle.coloring.specs.Coloring.{settled, walked}
 use Rattle.coloring.proofs.Marked.{unset-out, set-inside, Kept, phase-keeps, phase-total}
-use Rattle.coloring.proofs.Places.{back, back-at, back-other, length-putBack, count-none, count-through, count-fewer, count-out}
+use Rattle.places.proofs.Places.{back, back-at, back-other, length-putBack, count-none, count-through, count-fewer, count-out}
 
 -- ---- the marks that a phase leaves
 

@@ -13,11 +13,13 @@ use Rattle.seq.proofs.Filling.{length-tab, tab-cong}
 use Rattle.seq.proofs.Keeping.{keep-good}
 use Rattle.linear.specs.Vectors.{maxAbsTo, maxAbsOf}
 use Rattle.entries.specs.Rows.{isSet, times}
-use Rattle.walk.specs.Walk.{begun}
+use Rattle.begin.specs.Begin.{begun}
 use Rattle.direction.specs.Constants.{improvement}
 use Rattle.walk.proofs.SameEntries.{run-cong, phase-same, begun-same, times-same}
 use Rattle.search.specs.Search.{Search, flippedAt, improves, flipped, sweepTo, sweptOf, searchTo, searched}
-use Rattle.coloring.specs.Coloring.{Between, chosen, phased, settled, walked, coloringOf}
+use Rattle.places.specs.Places.{chosen}
+use Rattle.phasing.specs.Phase.{Between, phased}
+use Rattle.coloring.specs.Coloring.{settled, walked, coloringOf}
 
 -- ---- the search
 

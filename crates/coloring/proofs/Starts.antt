@@ -17,10 +17,13 @@ use Rattle.ieee.proofs.Equality.{alike-nonzero}
 use Rattle.entries.specs.Rows.{isSet}
 use Rattle.direction.specs.Constants.{one, minusOne}
 use Rattle.freeze.specs.Freeze.{Walk}
-use Rattle.walk.specs.Walk.{begun, phaseOf, freeOnes}
+use Rattle.begin.specs.Begin.{begun}
+use Rattle.walk.specs.Walk.{phaseOf, freeOnes}
 use Rattle.walk.proofs.Pairs.{each-length, each-at, each-set, each-tab, each-tabs, pick-both, run-both}
 use Rattle.walk.proofs.Starts.{AlikeList, AlikeWalk, at-alike, same-list, begun-alike, phase-alike}
-use Rattle.coloring.specs.Coloring.{Between, chosen, putBack, roundedAt, roundedOff, phased, settled, walked, coloringOf}
+use Rattle.places.specs.Places.{chosen, putBack, roundedAt}
+use Rattle.phasing.specs.Phase.{Between, roundedOff, phased}
+use Rattle.coloring.specs.Coloring.{settled, walked, coloringOf}
 use Rattle.coloring.proofs.Marked.{Colour}
 use Rattle.coloring.proofs.Colours.{Coloured, walk-colours}
 

@@ -15,9 +15,11 @@ use Rattle.seq.proofs.Filling.{length-tab}
 use Rattle.seq.proofs.Loops.{turns, stays}
 use Rattle.entries.specs.Rows.{times}
 use Rattle.walk.specs.Walk.{freeOnes}
-use Rattle.coloring.specs.Coloring.{Between, phased, settled, walked, coloringOf}
+use Rattle.phasing.specs.Phase.{Between, phased}
+use Rattle.coloring.specs.Coloring.{settled, walked, coloringOf}
 use Rattle.search.specs.Search.{searched}
-use Rattle.coloring.specs.Phasing.{between, Fresh}
+use Rattle.phasing.specs.Phasing.{between}
+use Rattle.coloring.specs.Fresh.{Fresh}
 use Rattle.freeze.specs.Held.{Roomy}
 use Rattle.coloring.proofs.Phases.{falls}
 

@@ -1,4 +1,3 @@
 -- The colouring: phases, and local search.
 pub mod Coloring
-pub mod Phasing
-pub mod Discrepancy
+pub mod Fresh

@@ -15,7 +15,7 @@ use Rattle.seq.specs.Sums.{plusZero, at}
 use Rattle.seq.specs.Keep.{count}
 use Rattle.direction.specs.Constants.{one, minusOne}
 use Rattle.ieee.proofs.Counting.{count-le}
-use Rattle.coloring.proofs.Places.{count-all}
+use Rattle.places.proofs.Places.{count-all}
 use Rattle.coloring.proofs.Marked.{Colour}
 use Rattle.coloring.proofs.Colours.{Coloured}
 use Rattle.halving.specs.Halving.{sigmaOf}

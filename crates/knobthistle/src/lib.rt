@@ -1,5 +1,5 @@
 // The C interface: nothing but exported calls. include/knobthistle.h declares them.
-use coloring::discrepancy::discrepancy_coloring;
+use discrepancy::discrepancy_coloring;
 use draw::SplitMix64;
 use margins::max_margin_change;
 use margins::turned_words;
@@ -13,7 +13,7 @@ ghost use Rattle.ieee.specs.Root.{sqrtOf};
 ghost use Rattle.draw.specs.SplitMix.{outputOf, afterOf};
 ghost use Rattle.draw.specs.Uniform.{uniformOf};
 ghost use Rattle.draw.specs.Gaussian.{lnOfDraw, cosOfDraw, gaussianOf, afterGaussian};
-ghost use Rattle.coloring.specs.Discrepancy.{DiscrepancyColored};
+ghost use Rattle.discrepancy.specs.Discrepancy.{DiscrepancyColored};
 ghost use Rattle.knobthistle.specs.Caps.{capOf};
 ghost use Rattle.sparsification.specs.Answers.{Thinned};
 ghost use Rattle.sparsification.specs.declared.Rule.the-variants.{Target, Within};

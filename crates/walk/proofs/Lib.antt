@@ -1,6 +1,4 @@
 -- The laws of the walk.
-pub mod Starting
-pub mod Advancing
 pub mod Stepping
 pub mod Ending
 pub mod Phases

@@ -17,9 +17,11 @@ use Rattle.entries.specs.Rows.{times, isSet, rowOf, firstRows}
 use Rattle.direction.specs.Direction.{drawn, directed, tooShort, uphill, turned}
 use Rattle.direction.specs.Step.{reachTo}
 use Rattle.freeze.specs.Freeze.{Walk, freezeTo}
-use Rattle.walk.specs.Walk.{Stepped, drew, advanced, steppedAlong, stepOf, freeOnes, phaseOf, blockTo, begun}
+use Rattle.begin.specs.Begin.{blockTo, begun}
+use Rattle.walk.specs.Walk.{Stepped, drew, advanced, steppedAlong, stepOf, freeOnes, phaseOf}
 use Rattle.freeze.specs.Held.{axIn, basisIn, held, Roomy}
-use Rattle.walk.specs.Walking.{Begun, StepHolds}
+use Rattle.begin.specs.Beginning.{Begun}
+use Rattle.walk.specs.Walking.{StepHolds}
 use Rattle.walk.specs.declared.Went.{Went}
 use Rattle.freeze.proofs.Scratch.{walk-path}
 use Rattle.freeze.proofs.Freezing.{freeze-most, count-most}

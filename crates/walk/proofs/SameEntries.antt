@@ -24,7 +24,8 @@ use Rattle.entries.specs.Rows.{rowOf, rowNorm, rowNorms, times, comesFirst, fir
 use Rattle.direction.specs.Direction.{uphill, turned, drawn, directed, tooShort}
 use Rattle.direction.specs.Step.{reachTo}
 use Rattle.freeze.specs.Freeze.{Walk, axis, freezes, blocking, frozenAt, freezeTo}
-use Rattle.walk.specs.Walk.{blockTo, marksTo, begun, Stepped, drew, advanced, steppedAlong, stepOf, ended, left, phaseOf}
+use Rattle.begin.specs.Begin.{blockTo, marksTo, begun}
+use Rattle.walk.specs.Walk.{Stepped, drew, advanced, steppedAlong, stepOf, ended, left, phaseOf}
 
 -- equal steps give equal loops
 pub run-cong : {S : Type 0} (done : S → Bool) (f g : S → S) → ((s : S) → f s ≡ g s) → (k : ℕ) (s : S) → run done f k s ≡ run done g k s

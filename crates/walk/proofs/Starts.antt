@@ -22,7 +22,8 @@ use Rattle.direction.specs.Constants.{one, minusOne, degenerate, freezeLimit}
 use Rattle.direction.specs.Direction.{afterDraws, drawn, zeroedAt, zeroed, directed, tooShort, uphill, turnedAt, turned}
 use Rattle.direction.specs.Step.{reachAt, reachTo, movedAt, moved, alongAt, along}
 use Rattle.freeze.specs.Freeze.{Walk, axis, freezes, blocking, frozenAt, freezeTo}
-use Rattle.walk.specs.Walk.{blockTo, marksTo, begun, Stepped, drew, advanced, steppedAlong, stepOf, ended, freeOnes, phaseOf}
+use Rattle.begin.specs.Begin.{blockTo, marksTo, begun}
+use Rattle.walk.specs.Walk.{Stepped, drew, advanced, steppedAlong, stepOf, ended, freeOnes, phaseOf}
 use Rattle.walk.proofs.Pairs.{Each, none, more, each-length, each-at, each-set, each-join, each-tab, each-tabs, each-same, pick-both, run-both}
 use Rattle.walk.proofs.Divisors.{divisor}
 

@@ -20,10 +20,11 @@ use Rattle.direction.specs.Step.{reachTo, moved, along}
 use Rattle.freeze.specs.Freeze.{Walk, freezeTo}
 use Rattle.walk.specs.Walk.{stepOf, steppedAlong, advanced}
 use Rattle.freeze.specs.Held.{axIn, basisIn, held, Roomy}
-use Rattle.walk.specs.Walking.{Advanced, StepHolds}
+use Rattle.advance.specs.Advancing.{Advanced}
+use Rattle.walk.specs.Walking.{StepHolds}
 use Rattle.walk.specs.declared.Went.{Went}
 use Rattle.freeze.proofs.Scratch.{vectors-take, drop-later, walk-path}
-use Rattle.walk.proofs.Advancing.{length-directed}
+use Rattle.advance.proofs.Advancing.{length-directed}
 
 -- the arm of a choice whose test is known
 picked : {w : List Float} (t : Bool) (u v : List Float) → w ≡ pick t u v → t ≡ true → w ≡ u

@@ -1,44 +1,19 @@
--- A phase of the walk, on its l columns: rows are blocked, then steps are made until one ends the phase.
-use Prim.Native.Nat.{ℕ, zero, suc}
+-- A phase of the walk, on its l columns: from where it begins, steps are made until one ends it.
+use Prim.Native.Nat.{ℕ, suc}
 use mathlib.Core.Bool.{Bool, true, false, not, _||_}
-use mathlib.Core.List.{List, [], _∷_}
+use mathlib.Core.List.{List}
 use lib.Dec.{ltb}
-use lib.ListN.{length, getD, set}
+use lib.ListN.{length}
 use lib.Ieee.{Float}
 use Rattle.seq.specs.Choice.{pick}
-use Rattle.seq.specs.Lists.{tabulate, repeated}
 use Rattle.seq.specs.Keep.{count}
 use Rattle.seq.specs.Until.{run}
 use lib.Ieee.Scale.{finite}
-use Rattle.entries.specs.Rows.{firstRows, isSet}
+use Rattle.entries.specs.Rows.{isSet}
 use Rattle.direction.specs.Direction.{afterDraws, drawn, directed, tooShort, uphill, turned}
 use Rattle.entries.specs.Rows.{times}
 use Rattle.direction.specs.Step.{reachTo, moved, along}
-use Rattle.freeze.specs.Freeze.{Walk, blocking, freezeTo}
-
--- the basis after the first k of some rows were blocked, in order
-unfoldable pub blockTo : Float → (ℕ → ℕ → Float) → ℕ → List ℕ → ℕ → List (List Float)
-blockTo z a l rows zero = []
-blockTo z a l rows (suc k) = blocking z a l (getD rows k 0) (blockTo z a l rows k)
-
--- marks that are set at the first k of some rows
-unfoldable pub marksTo : ℕ → List ℕ → ℕ → List ℕ
-marksTo n rows zero = repeated 0 n
-marksTo n rows (suc k) = set (marksTo n rows k) (getD rows k 0) 1
-
--- a phase's start at x and A x: every coordinate is free, and the first rows are blocked
-unfoldable pub begun : Float → (ℕ → ℕ → Float) → ℕ → ℕ → List Float → List Float → ℕ → Walk
-begun z a l n x ax rng =
-    let rows : List ℕ = firstRows z a l n ax in
-    record {
-      x = x;
-      free = repeated 1 l;
-      frozen = 0;
-      ax = ax;
-      blocked = marksTo n rows (length rows);
-      basis = blockTo z a l rows (length rows);
-      rng = rng;
-    }
+use Rattle.freeze.specs.Freeze.{Walk, freezeTo}
 
 -- a walk, and whether its phase goes on
 pub record Stepped : Type 0 where

@@ -1,55 +1,11 @@
--- What the pieces of a phase leave in the scratch.
-use Prim.Native.Nat.{ℕ, _+_, _*_}
+-- What a step leaves in the scratch.
+use Prim.Native.Nat.{ℕ}
 use mathlib.Core.Path.{_≡_}
-use mathlib.Core.Bool.{Bool}
 use mathlib.Core.List.{List}
-use lib.ListN.{length, drop}
 use lib.Ieee.{Float}
-use lib.Ieee.Scale.{finite}
-use Rattle.seq.specs.Choice.{pick}
-use Rattle.seq.specs.Sums.{plusZero}
-use Rattle.entries.specs.Rows.{firstRows}
-use Rattle.direction.specs.Direction.{uphill, turned}
-use Rattle.entries.specs.Rows.{times}
-use Rattle.direction.specs.Step.{reachTo, moved, along}
-use Rattle.walk.specs.Walk.{blockTo, marksTo, Stepped}
-use Rattle.freeze.specs.Held.{axIn, agIn, basisIn, held}
+use Rattle.walk.specs.Walk.{Stepped}
+use Rattle.freeze.specs.Held.{held}
 use Rattle.walk.specs.declared.Went.{Went}
-
--- some rows were blocked in order
-pub record BlockedFirst (a : ℕ → ℕ → Float) (l : ℕ) (first : List ℕ) (num : List Float) (rows r : ℕ) (num' : List Float) (blocked' : List ℕ) : Type 0 where
-  pub ax : axIn rows num' ≡ axIn rows num
-  pub marks : blocked' ≡ marksTo rows first (length first)
-  pub basis : basisIn rows l r num' ≡ blockTo plusZero a l first (length first)
-
--- the rows most at risk were
-pub record Begun (a : ℕ → ℕ → Float) (l : ℕ) (num : List Float) (rows r : ℕ) (num' : List Float) (blocked' : List ℕ) : Type 0 where
-  pub ax : axIn rows num' ≡ axIn rows num
-  pub marks : blocked' ≡ marksTo rows (firstRows plusZero a l rows (axIn rows num)) (length (firstRows plusZero a l rows (axIn rows num)))
-  pub basis : basisIn rows l r num' ≡ blockTo plusZero a l (firstRows plusZero a l rows (axIn rows num)) (length (firstRows plusZero a l rows (axIn rows num)))
-
--- whether g leads uphill from the A x that num holds
-abbrev pub uphillIn : (ℕ → ℕ → Float) → ℕ → List Float → List Float → Bool
-uphillIn a rows num g = uphill plusZero (axIn rows num) (times plusZero a (length g) rows g)
-
--- g was turned, A g stands beside A x, and the rest is as it was
-pub record Downhill (a : ℕ → ℕ → Float) (rows : ℕ) (num g num' g' : List Float) : Type 0 where
-  pub direction : g' ≡ turned (uphillIn a rows num g) g
-  pub ax : axIn rows num' ≡ axIn rows num
-  pub ag : agIn rows num' ≡ turned (uphillIn a rows num g) (times plusZero a (length g) rows g)
-  pub rest : drop (rows + rows) num' ≡ drop (rows + rows) num
-
--- how far the step along g goes, once it is turned
-abbrev pub reachIn : (ℕ → ℕ → Float) → ℕ → List Float → List Float → List ℕ → List Float → Float
-reachIn a rows num x free g = reachTo x (turned (uphillIn a rows num g) g) free (length g)
-
--- where that is finite, x and A x were moved so far; the rest is as it was
-pub record Advanced (a : ℕ → ℕ → Float) (rows : ℕ) (num x : List Float) (free : List ℕ) (g : List Float) (r : Bool) (num' x' : List Float) : Type 0 where
-  pub goes : r ≡ finite (reachIn a rows num x free g)
-  pub moves : x' ≡ pick r (moved (reachIn a rows num x free g) x (turned (uphillIn a rows num g) g) free) x
-  pub ax : axIn rows num'
-      ≡ pick r (along (reachIn a rows num x free g) (axIn rows num) (turned (uphillIn a rows num g) (times plusZero a (length g) rows g))) (axIn rows num)
-  pub rest : drop (rows + rows) num' ≡ drop (rows + rows) num
 
 -- the scratch and the answer s of a step hold o
 pub record StepHolds (num : List Float) (blocked : List ℕ) (x : List Float) (free : List ℕ) (s : Went) (o : Stepped) : Type 0 where

@@ -4,7 +4,7 @@ use Rattle.entries.specs.Entries.{entryOf}
 use Rattle.walk.specs.Walk.{freeOnes}
 use Rattle.freeze.specs.Held.{Roomy}
 use Rattle.coloring.specs.Coloring.{walked}
-use Rattle.coloring.specs.Phasing.{between}
+use Rattle.phasing.specs.Phasing.{between}
 use Rattle.coloring.proofs.Walks.{onward, walk-begun, walk-falls, walk-turn, walk-over, roomy-still}
 use borrow.Author.Needs.{needs}
 use mathlib.Core.Path.{_≡_, refl, sym, _∙_}

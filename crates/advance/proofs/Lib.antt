@@ -1,0 +1,2 @@
+-- The laws of the move along a direction.
+pub mod Advancing

@@ -1,0 +1,2 @@
+-- The laws of a phase's start.
+mod Starting

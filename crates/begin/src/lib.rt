@@ -1,0 +1,63 @@
+// The start of a phase: the rows most at risk are blocked.
+use entries::norms_into;
+use entries::rows::first_rows;
+use freeze::block_row;
+use seq::clear_words;
+ghost use mathlib.Core.Path.{_≡_};
+ghost use Prim.Native.Nat.{ℕ, _≤_, _<_, _*_, _+_};
+ghost use lib.ListN.{length, getD};
+ghost use Rattle.seq.specs.Lists.{repeated};
+ghost use Rattle.entries.specs.Entries.{entryOf, Chosen};
+ghost use Rattle.begin.specs.Beginning.{BlockedFirst, Begun};
+
+// Blocks some rows, in order; how many vectors the basis then has. v is room for a row.
+fn block_first(
+    num: &mut [f64],
+    blocked: &mut [u32],
+    first: &[u32],
+    u: &[f64],
+    n: usize,
+    cols: &[u32],
+    scale: &[f64],
+    v: &mut [f64],
+) -> usize
+    requires { ⌜ Chosen (now u) n (now cols) (now scale) (length (now blocked)) × (length (now v) ≡ length (now cols)) × (length (now blocked) + length (now blocked) + length (now blocked) + length (now cols) * length (now cols) ≤ length (now num)) × (now blocked ≡ repeated 0 (length (now blocked))) ⌝ }
+    requires { ⌜ ((k : ℕ) → k < length (now first) → getD (now first) k 0 < length (now blocked)) ⌝ }
+    ensures { λ r. ⌜ BlockedFirst (entryOf (now (u .entry)) n (now (cols .entry)) (now (scale .entry))) (length (now (cols .entry))) (now (first .entry)) (now (num .entry)) (length (now (blocked .entry))) r (now (num .exit)) (now (blocked .exit)) ⌝ }
+{
+    let base = blocked.len() + blocked.len() + blocked.len();
+    let mut count = 0usize;
+    let mut k = 0usize;
+    while k < first.len() {
+        let i = first[k] as usize;
+        blocked[i] = 1;
+        count = block_row(&mut num[base..], count, i, u, n, cols, scale, &mut v[..]);
+        k += 1;
+    }
+    count
+}
+
+// Blocks the rows most at risk, a quarter as many as there are columns; how many vectors the basis then has.
+pub fn begin(
+    num: &mut [f64],
+    blocked: &mut [u32],
+    u: &[f64],
+    n: usize,
+    cols: &[u32],
+    scale: &[f64],
+    v: &mut [f64],
+) -> usize
+    requires { ⌜ Chosen (now u) n (now cols) (now scale) (length (now blocked)) × (length (now v) ≡ length (now cols)) × (length (now blocked) + length (now blocked) + length (now blocked) + length (now cols) * length (now cols) ≤ length (now num)) ⌝ }
+    ensures { λ r. ⌜ Begun (entryOf (now (u .entry)) n (now (cols .entry)) (now (scale .entry))) (length (now (cols .entry))) (now (num .entry)) (length (now (blocked .entry))) r (now (num .exit)) (now (blocked .exit)) ⌝ }
+{
+    let rows = blocked.len();
+    let from = rows + rows;
+    let to = from + rows;
+    let quarter = cols.len() / 4;
+    let mut first = [0u32; 64];
+    norms_into(&mut num[from..to], u, n, cols, scale);
+    let all = &num[..];
+    let k = first_rows(&mut first[..quarter], &all[0..rows], &all[from..to]);
+    clear_words(&mut blocked[..]);
+    block_first(num, blocked, &first[..k], u, n, cols, scale, v)
+}

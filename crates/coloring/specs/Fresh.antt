@@ -1,0 +1,14 @@
+-- Where the walk starts.
+use Prim.Native.Nat.{ℕ}
+use mathlib.Core.Path.{_≡_}
+use mathlib.Core.List.{List}
+use lib.Ieee.{Float}
+use Rattle.seq.specs.Lists.{repeated}
+use Rattle.seq.specs.Sums.{plusZero}
+use Rattle.freeze.specs.Held.{axIn}
+
+-- the walk's start: every coordinate 0 and free, and A x 0
+pub record Fresh (k rows : ℕ) (num x : List Float) (free : List ℕ) : Type 0 where
+  pub zero : x ≡ repeated plusZero k
+  pub all : free ≡ repeated 1 k
+  pub flat : axIn rows num ≡ repeated plusZero rows

@@ -1,0 +1,71 @@
+-- The matrix as it is lent: with the columns chosen in order, each scaled by 1.0, an entry reads as it stands.
+use Prim.Native.Nat.{ℕ, _+_, _*_, _≤_, _<_}
+use mathlib.Core.Path.{_≡_, sym, ap, _∙_}
+use mathlib.Core.List.{List}
+use native.Mathlib.Omega.{arith}
+use lib.Dec.{T}
+use lib.ListN.{length, getD}
+use lib.Ieee.{Float, nan, binary64, mul, fits}
+use Rattle.seq.specs.Lists.{tabulate, repeated}
+use Rattle.seq.specs.Sums.{plusZero, at}
+use Rattle.seq.proofs.Filling.{length-tab, getD-tab, room}
+use Rattle.ieee.proofs.Products.{times-one}
+use Rattle.ieee.proofs.Division.{unit-is}
+use Rattle.entries.specs.Entries.{entryOf, Chosen}
+use Rattle.entries.proofs.Reading.{entry-own}
+use Rattle.direction.specs.Constants.{one}
+use Rattle.coloring.specs.Coloring.{Colored, coloringOf}
+use Rattle.limits.specs.Matrix.{columnsOf}
+use Rattle.coloring.proofs.SameColumns.{coloring-same}
+
+-- the columns in order, and a scale of 1.0 for each
+abbrev pub inOrder : ℕ → List ℕ
+inOrder m = tabulate (λ i. i) m
+
+abbrev pub unscaled : ℕ → List Float
+unscaled m = repeated one m
+
+-- x times 1.0
+unscaled-is : (x : Float) → T (fits binary64 x) → mul binary64 x one ≡ x
+unscaled-is x h = rw unit-is (times-one binary64 x h)
+
+module _ (u : List Float) (m n : ℕ) (area : length u ≡ m * n) where
+  inside : (p : ℕ) → p < m → getD (inOrder m) p 0 * n + n ≤ length u
+  inside p h = rw (getD-tab (λ i. i) m p 0 h, area) (room p m n h)
+
+  pub own-chosen : m ≤ 256 → n ≤ 4096 → Chosen u n (inOrder m) (unscaled m) n
+  own-chosen few short =
+      record {
+        low = omega arith;
+        high = omega arith;
+        short = omega arith;
+        few = rw (length-tab (λ i. i) m) few;
+        paired = length-tab (λ i. one) m ∙ sym (length-tab (λ i. i) m);
+        inside = λ p h. inside p (rw (length-tab (λ i. i) m) at h);
+      }
+
+  module _ (known : (i : ℕ) → T (fits binary64 (at u i))) where
+    own-entry : (p i : ℕ) → p < m → i < n → entryOf u n (inOrder m) (unscaled m) p i ≡ columnsOf u n p i
+    own-entry p i h k =
+        entry-own u n (inOrder m) (unscaled m) p i (inside p h) k
+        ∙ rw (getD-tab (λ i. i) m p 0 h, getD-tab (λ i. one) m p nan h) (unscaled-is (at u (p * n + i)) (known (p * n + i)))
+
+    -- the colouring of those columns is that of the matrix
+    pub own-coloring : (rng : ℕ) → coloringOf plusZero (entryOf u n (inOrder m) (unscaled m)) m n rng ≡ coloringOf plusZero (columnsOf u n) m n rng
+    own-coloring rng = coloring-same (entryOf u n (inOrder m) (unscaled m)) (columnsOf u n) m n own-entry plusZero rng
+
+module _ (u : List Float) (m n : ℕ) (cols : List ℕ) (scale : List Float) (blocked : List ℕ)
+    (area : length u ≡ m * n) (ordered : cols ≡ inOrder m) (ones : scale ≡ unscaled m) (rows : length blocked ≡ n) where
+  many : length cols ≡ m
+  many = rw ordered (length-tab (λ i. i) m)
+
+  -- what the colouring of those columns asks for
+  pub own-asked : (x num : List Float) → m ≤ 256 → n ≤ 4096 → length x ≡ m → n + n + n + m * m ≤ length num
+      → Chosen u n cols scale (length blocked) × (length x ≡ length cols) × (length blocked + length blocked + length blocked + length cols * length cols ≤ length num)
+  own-asked x num few short wide room =
+      (rw (ordered, ones, rows) (own-chosen u m n area few short), wide ∙ sym many, rw (rows, many) room)
+
+  -- and what it leaves
+  pub own-left : ((i : ℕ) → T (fits binary64 (at u i))) → (rng seed : ℕ) → rng ≡ seed
+      → coloringOf plusZero (entryOf u n cols scale) (length cols) (length blocked) rng .x ≡ coloringOf plusZero (columnsOf u n) m n seed .x
+  own-left known rng seed e = rw (rows, many, ordered, ones, e) (ap (λ (b : Colored). b .x) (own-coloring u m n area known seed))

@@ -1,0 +1,116 @@
+-- `coloring::discrepancy::color_all` meets its contract: the columns in order, scaled by 1.0, are those of the matrix (`OwnColumns`), and the colouring reads no others.
+use Rattle.discrepancy.proofs.Fronts.{front-few, filled-back, filled-long}
+use lib.Seq.{length-take-le}
+use Rattle.discrepancy.proofs.OwnColumns.{own-asked, own-left}
+use Rattle.direction.specs.Constants.{one}
+use borrow.Author.Needs.{needs}
+use Prim.Native.Nat.{ℕ}
+use mathlib.Core.Path.{sym, _∙_}
+use mathlib.Core.List.{List}
+use lib.ListN.{take}
+use Rattle.discrepancy.proofs.color_all.Statement.{statement}
+use Rattle.discrepancy.proofs.color_all.Tie as tie
+
+array-borrow-prefix-cols : tie.Need-array-borrow-prefix-cols
+array-borrow-prefix-cols c = search needs
+
+slice-aggregate-count-up : tie.Need-slice-aggregate-count-up
+slice-aggregate-count-up c = sym (length-take-le _ _ (c .before .before .before .before .before .pre .1))
+
+count-up-requires : tie.Need-count-up-requires
+count-up-requires c κs = front-few _ _ _ (c .before .before .before .before .before .pre .1)
+
+array-borrow-prefix-scale : tie.Need-array-borrow-prefix-scale
+array-borrow-prefix-scale c = search needs
+
+slice-aggregate-fill : tie.Need-slice-aggregate-fill
+slice-aggregate-fill c = sym (length-take-le _ _ (c .before .before .before .before .before .before .before .before .pre .1))
+
+fill-requires : tie.Need-fill-requires
+fill-requires c κs = search needs
+
+array-share-prefix-cols : tie.Need-array-share-prefix-cols
+array-share-prefix-cols c = filled-long (λ i. i) _ _ _ (c .before .before .before .before .before .before .before .before .before .before .pre .1) (c .before .before .before .before .count-up .ensures)
+
+slice-aggregate-coloring : tie.Need-slice-aggregate-coloring
+slice-aggregate-coloring c =
+    let c5 = c .before .before .before .before .before in
+    let c11 = c5 .before .before .before .before .before .before in
+    sym (length-take-le _ _ (filled-long (λ i. i) _ _ _ (c11 .pre .1) (c5 .count-up .ensures)))
+
+array-share-prefix-scale : tie.Need-array-share-prefix-scale
+array-share-prefix-scale c = filled-long (λ i. one) _ _ _ (c .before .before .before .before .before .before .before .before .before .before .before .pre .1) (c .before .before .fill .ensures)
+
+slice-aggregate-coloring-2 : tie.Need-slice-aggregate-coloring-2
+slice-aggregate-coloring-2 c = sym (length-take-le _ _ (filled-long (λ i. one) _ _ _ (c .before .before .before .before .before .before .before .before .before .before .before .before .pre .1) (c .before .before .before .fill .ensures)))
+
+slice-relend-prefix-coloring : tie.Need-slice-relend-prefix-coloring
+slice-relend-prefix-coloring c = search needs
+
+slice-aggregate-coloring-3 : tie.Need-slice-aggregate-coloring-3
+slice-aggregate-coloring-3 c = sym (length-take-le _ _ (c .before .before .before .before .before .before .before .before .before .before .before .before .before .before .before .pre .5))
+
+new-requires : tie.Need-new-requires
+new-requires c κs = search needs
+
+coloring-requires : tie.Need-coloring-requires
+coloring-requires c κs =
+    let c7 = c .before .before .before .before .before .before .before in
+    let c10 = c7 .before .before .before in
+    let c16 = c10 .before .before .before .before .before .before in
+    let indices : List ℕ = take (c16 .args .n) (c16 .args .indices .now) in
+    own-asked (c16 .args .matrix .now) (c16 .args .m) (c16 .args .n) _ _ indices
+    (c16 .pre .0)
+    (filled-back (λ i. i) _ _ _ (c16 .pre .1) (c10 .count-up .ensures))
+    (filled-back (λ i. one) _ _ _ (c16 .pre .1) (c7 .fill .ensures))
+    (length-take-le (c16 .args .n) (c16 .args .indices .now) (c16 .pre .5))
+    (c16 .args .x .now) (c16 .args .numbers .now) (c16 .pre .1) (c16 .pre .2) (c16 .pre .3) (c16 .pre .4)
+
+same-length : tie.Need-same-length
+same-length c = search needs
+
+same-length-2 : tie.Need-same-length-2
+same-length-2 c = search needs
+
+same-length-3 : tie.Need-same-length-3
+same-length-3 c = search needs
+
+returns : tie.Need-returns
+returns c =
+    let c6 = c .before .before .before .before .before .before in
+    let c7 = c6 .before in
+    let c14 = c7 .before .before .before .before .before .before .before in
+    let c17 = c14 .before .before .before in
+    let c22 = c17 .before .before .before .before .before in
+    let c23 = c22 .before in
+    let indices : List ℕ = take (c23 .args .n) (c23 .args .indices .now) in
+    c6 .coloring .ensures .0
+    ∙ own-left (c23 .args .matrix .now) (c23 .args .m) (c23 .args .n) _ _ indices
+    (c23 .pre .0)
+    (filled-back (λ i. i) _ _ _ (c23 .pre .1) (c17 .count-up .ensures))
+    (filled-back (λ i. one) _ _ _ (c23 .pre .1) (c14 .fill .ensures))
+    (length-take-le (c23 .args .n) (c23 .args .indices .now) (c23 .pre .5))
+    (c22 .shared-slice-known .given) _ _ (c7 .new .ensures)
+
+pub color-all-spec : {M : Type 1} → statement M
+color-all-spec =
+    tie.close
+    (tie.spec
+    array-borrow-prefix-cols
+    slice-aggregate-count-up
+    count-up-requires
+    array-borrow-prefix-scale
+    slice-aggregate-fill
+    fill-requires
+    array-share-prefix-cols
+    slice-aggregate-coloring
+    array-share-prefix-scale
+    slice-aggregate-coloring-2
+    slice-relend-prefix-coloring
+    slice-aggregate-coloring-3
+    new-requires
+    coloring-requires
+    same-length
+    same-length-2
+    same-length-3
+    returns)

@@ -1,0 +1,105 @@
+-- `coloring::discrepancy::discrepancy_coloring` meets its contract: a refusal changes nothing, and else the arguments are `Accepted` and each call leaves its part of the outcome.
+use lib.Seq.{length-take-le}
+use Rattle.discrepancy.proofs.Accepted.{accepted}
+use Rattle.discrepancy.proofs.Fronts.{front-back, back-long}
+use Rattle.discrepancy.proofs.Outcomes.{refused, coloured}
+use borrow.Author.Needs.{needs}
+use mathlib.Core.Path.{sym, _∙_}
+use mathlib.Core.List.{List}
+use lib.Ieee.{Float}
+use Rattle.discrepancy.proofs.discrepancy_coloring.Statement.{statement}
+use Rattle.discrepancy.proofs.discrepancy_coloring.Tie as tie
+
+coloring-fault-requires : tie.Need-coloring-fault-requires
+coloring-fault-requires c κs = search needs
+
+returns : tie.Need-returns
+returns c = refused _ _ _ _ _ _ _ _ (c .before .coloring-fault .ensures) (c .if1 .taken)
+
+array-borrow-prefix-x : tie.Need-array-borrow-prefix-x
+array-borrow-prefix-x c = accepted _ _ _ _ _ _ (sym (c .before .coloring-fault .ensures) ∙ c .if1 .left) .columns
+
+slice-aggregate-color-all : tie.Need-slice-aggregate-color-all
+slice-aggregate-color-all c = sym (length-take-le _ _ (accepted _ _ _ _ _ _ (sym (c .before .before .coloring-fault .ensures) ∙ c .before .if1 .left) .columns))
+
+color-all-requires : tie.Need-color-all-requires
+color-all-requires c κs =
+    let a = accepted _ _ _ _ _ _ (sym (c .before .before .before .before .coloring-fault .ensures) ∙ c .before .before .before .if1 .left) in
+    (a .area, a .columns, a .rows, length-take-le _ _ (a .columns), a .floats, a .words)
+
+array-share-prefix-x : tie.Need-array-share-prefix-x
+array-share-prefix-x c =
+    let c6 = c .before .before .before .before .before .before in
+    let c10 = c6 .before .before .before .before in
+    let c11 = c10 .before in
+    back-long _ (c6 .color-all .last .1 .1 .1 .1 .0) _ (accepted _ _ _ _ _ _ (sym (c11 .coloring-fault .ensures) ∙ c10 .if1 .left) .columns) (c6 .color-all .kept .1 .1 .1 .1 .0)
+
+slice-aggregate-write-colours : tie.Need-slice-aggregate-write-colours
+slice-aggregate-write-colours c =
+    let c7 = c .before .before .before .before .before .before .before in
+    let c11 = c7 .before .before .before .before in
+    let c12 = c11 .before in
+    sym
+    (length-take-le _ _
+    (back-long _ (c7 .color-all .last .1 .1 .1 .1 .0) _ (accepted _ _ _ _ _ _ (sym (c12 .coloring-fault .ensures) ∙ c11 .if1 .left) .columns) (c7 .color-all .kept .1 .1 .1 .1 .0)))
+
+write-colours-requires : tie.Need-write-colours-requires
+write-colours-requires c κs =
+    let c7 = c .before .before .before .before .before .before .before in
+    let c11 = c7 .before .before .before .before in
+    let c12 = c11 .before in
+    let a = accepted _ _ _ _ _ _ (sym (c12 .coloring-fault .ensures) ∙ c11 .if1 .left) in
+    a .colours ∙ sym (length-take-le _ _ (back-long _ (c7 .color-all .last .1 .1 .1 .1 .0) _ (a .columns) (c7 .color-all .kept .1 .1 .1 .1 .0)))
+
+clear-requires : tie.Need-clear-requires
+clear-requires c κs = search needs
+
+clear-words-requires : tie.Need-clear-words-requires
+clear-words-requires c κs = search needs
+
+same-length : tie.Need-same-length
+same-length c = search needs
+
+same-length-2 : tie.Need-same-length-2
+same-length-2 c = search needs
+
+same-length-3 : tie.Need-same-length-3
+same-length-3 c = search needs
+
+returns-2 : tie.Need-returns-2
+returns-2 c =
+    let c2 = c .before .before in
+    let c6 = c2 .before .before .before .before in
+    let c9 = c6 .before .before .before in
+    let c17 = c9 .before .before .before .before .before .before .before .before in
+    let c21 = c17 .before .before .before .before in
+    let c22 = c21 .before in
+    let e = sym (c22 .coloring-fault .ensures) ∙ c21 .if1 .left in
+    let a = accepted _ _ _ _ _ _ e in
+    let x : List Float = c17 .color-all .last .1 .1 .1 .1 .0 in
+    let kept = c17 .color-all .kept .1 .1 .1 .1 in
+    coloured _ _ _ _ _ _ _ _ _ _ _ e
+    (front-back _ x _ (a .columns) (kept .0) ∙ c17 .color-all .ensures)
+    (length-take-le _ _ (back-long _ x _ (a .columns) (kept .0)))
+    (c9 .write-colours .ensures)
+    (c6 .clear .ensures ∙ rw (kept .1 .0))
+    (c2 .clear-words .ensures ∙ rw (kept .1 .1 .0))
+
+pub discrepancy-coloring-spec : {M : Type 1} → statement M
+discrepancy-coloring-spec =
+    tie.close
+    (tie.spec
+    coloring-fault-requires
+    returns
+    array-borrow-prefix-x
+    slice-aggregate-color-all
+    color-all-requires
+    array-share-prefix-x
+    slice-aggregate-write-colours
+    write-colours-requires
+    clear-requires
+    clear-words-requires
+    same-length
+    same-length-2
+    same-length-3
+    returns-2)

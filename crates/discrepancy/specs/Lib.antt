@@ -1,0 +1,2 @@
+-- The public colouring.
+pub mod Discrepancy

@@ -1,0 +1,129 @@
+// The public colouring of a lent matrix.
+use coloring::coloring;
+use draw::SplitMix64;
+use limits::all_bounded;
+use limits::scratch_short;
+use limits::too_large;
+use seq::clear;
+use seq::clear_words;
+use seq::fill;
+ghost use mathlib.Core.Path.{_≡_};
+ghost use Prim.Native.Nat.{_≤_, _*_, _+_};
+ghost use lib.ListN.{length};
+ghost use Rattle.seq.specs.Lists.{tabulate};
+ghost use Rattle.seq.specs.Sums.{plusZero};
+ghost use Rattle.coloring.specs.Coloring.{coloringOf};
+ghost use Rattle.limits.specs.Matrix.{columnsOf};
+ghost use Rattle.discrepancy.specs.Discrepancy.{coloringFault, colourAt, DiscrepancyColored};
+
+// The lowest refusal number that applies, or 0.
+fn coloring_fault(
+    matrix: &[f64],
+    m: usize,
+    n: usize,
+    output: usize,
+    numbers: usize,
+    indices: usize,
+) -> u64
+    ensures { λ r. ⌜ r ≡ coloringFault (now (matrix .entry)) m n output numbers indices ⌝ }
+{
+    if too_large(m, n) {
+        return 3;
+    }
+    if matrix.len() != m * n || output != m {
+        return 4;
+    }
+    if scratch_short(m, n, numbers, indices) {
+        return 6;
+    }
+    if all_bounded(matrix, 4294967296.0) {
+        0
+    } else {
+        11
+    }
+}
+
+// 0, 1, .. in order.
+fn count_up(a: &mut [u32])
+    requires { ⌜ length (now a) ≤ 256 ⌝ }
+    ensures { λ _. ⌜ now (a .exit) ≡ tabulate (λ i. i) (length (now (a .entry))) ⌝ }
+{
+    let mut i = 0usize;
+    while i < a.len() {
+        a[i] = i as u32;
+        i += 1;
+    }
+}
+
+// Colours all m columns into x. The matrix is read as it is: every scale is 1.0.
+fn color_all(
+    matrix: &[f64],
+    m: usize,
+    n: usize,
+    seed: u64,
+    x: &mut [f64],
+    numbers: &mut [f64],
+    indices: &mut [u32],
+)
+    requires { ⌜ (length (now matrix) ≡ m * n) × (m ≤ 256) × (n ≤ 4096) × (length (now x) ≡ m) × (n + n + n + m * m ≤ length (now numbers)) × (n ≤ length (now indices)) ⌝ }
+    ensures { λ _. ⌜ now (x .exit) ≡ coloringOf plusZero (columnsOf (now (matrix .entry)) n) m n seed .x ⌝ }
+{
+    let mut cols = [0u32; 256];
+    let mut scale = [0.0f64; 256];
+    count_up(&mut cols[..m]);
+    fill(&mut scale[..m], 1.0);
+    coloring(
+        matrix,
+        n,
+        &cols[..m],
+        &scale[..m],
+        x,
+        numbers,
+        &mut indices[..n],
+        SplitMix64::new(seed),
+    );
+}
+
+// 1 for a colour above 0, and -1 for one below.
+fn write_colours(output: &mut [i8], x: &[f64])
+    requires { ⌜ length (now output) ≡ length (now x) ⌝ }
+    ensures { λ _. ⌜ now (output .exit) ≡ tabulate (colourAt (now (x .entry))) (length (now (x .entry))) ⌝ }
+{
+    let mut j = 0usize;
+    while j < output.len() {
+        output[j] = if x[j] > 0.0 { 1 } else { -1 };
+        j += 1;
+    }
+}
+
+// Colours the m columns of n rows, 1 or -1 each, so that every row's sum is small. Answers 0, or the number of a refusal, which changes nothing.
+pub fn discrepancy_coloring(
+    matrix: &[f64],
+    m: usize,
+    n: usize,
+    seed: u64,
+    output: &mut [i8],
+    numbers: &mut [f64],
+    indices: &mut [u32],
+) -> u64
+    ensures { λ r. ⌜ DiscrepancyColored (now (matrix .entry)) m n seed (now (output .entry)) (now (numbers .entry)) (now (indices .entry)) r (now (output .exit)) (now (numbers .exit)) (now (indices .exit)) ⌝ }
+{
+    let number = coloring_fault(matrix, m, n, output.len(), numbers.len(), indices.len());
+    if number != 0 {
+        return number;
+    }
+    let mut x = [0.0f64; 256];
+    color_all(
+        matrix,
+        m,
+        n,
+        seed,
+        &mut x[..m],
+        &mut numbers[..],
+        &mut indices[..],
+    );
+    write_colours(output, &x[..m]);
+    clear(numbers);
+    clear_words(indices);
+    0
+}

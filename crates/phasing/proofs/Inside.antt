@@ -1,0 +1,137 @@
+-- A phase on the columns at some places: what is chosen there is a matrix of its own, whose entries are those at the places,
+-- and what the phase leaves, put back, is what the definition of a phase says.
+use Prim.Native.Nat.{ℕ, _≤_, _<_}
+use mathlib.Core.Path.{_≡_, sym, ap, _∙_}
+use mathlib.Core.Logic.{_≢_}
+use mathlib.Core.Bool.{Bool, true, false}
+use mathlib.Core.List.{List}
+use native.Mathlib.Omega.{arith}
+use native.Mathlib.Nat.{mul-le-mul}
+use borrow.Author.Tests.{eq-eqb, ne-eqb}
+use lib.Dec.{eqb}
+use lib.ListN.{length, getD, take}
+use lib.Ieee.{Float, nan}
+use Rattle.seq.specs.Choice.{pick}
+use Rattle.seq.specs.Lists.{tabulate, repeated}
+use Rattle.seq.specs.Sums.{plusZero, at}
+use Rattle.seq.specs.Keep.{keep, Pushed}
+use Rattle.seq.proofs.Filling.{length-tab, getD-tab}
+use Rattle.seq.proofs.Keeping.{keep-short, keep-good}
+use Rattle.entries.specs.Rows.{isSet}
+use Rattle.entries.specs.Entries.{entryOf, Chosen}
+use Rattle.freeze.specs.Freeze.{Walk}
+use Rattle.begin.specs.Begin.{begun}
+use Rattle.walk.specs.Walk.{phaseOf}
+use Rattle.freeze.specs.Held.{axIn, Roomy}
+use Rattle.places.specs.Places.{chosen, putBack, roundedAt}
+use Rattle.phasing.specs.Phase.{Between, roundedOff, phased}
+use Rattle.places.specs.Places.{Below, wordsAt}
+use Rattle.phasing.specs.Phasing.{between, insideOf, PhasedAt}
+use Rattle.walk.proofs.SameEntries.{begun-same, phase-same}
+
+-- ---- what is chosen
+
+module _ (u : List Float) (n : ℕ) (cols : List ℕ) (scale : List Float) (places : List ℕ) where
+  -- an entry of the chosen columns is the entry at its place
+  entry-chosen : (p : ℕ) → p < length places → (i : ℕ)
+      → entryOf u n (wordsAt cols places) (chosen scale places) p i ≡ entryOf u n cols scale (getD places p 0) i
+  entry-chosen p h i =
+      rw (getD-tab {A = ℕ} (λ q. getD cols (getD places q 0) 0) (length places) p 0 h, getD-tab (λ q. at scale (getD places q 0)) (length places) p nan h)
+
+  pub chosen-part : (rows : ℕ) → Chosen u n cols scale rows → Below places (length cols) → length places ≤ length cols
+      → Chosen u n (wordsAt cols places) (chosen scale places) rows
+  chosen-part rows c b h =
+      let lc : length (wordsAt cols places) ≡ length places = length-tab {A = ℕ} (λ q. getD cols (getD places q 0) 0) (length places) in
+      let ls : length (chosen scale places) ≡ length places = length-tab (λ q. at scale (getD places q 0)) (length places) in
+      record {
+        low = c .low;
+        high = c .high;
+        short = c .short;
+        few = omega (arith, c .few);
+        paired = ls ∙ sym lc;
+        inside = λ p g.
+            let q : p < length places = omega arith in
+            rw (getD-tab {A = ℕ} (λ q. getD cols (getD places q 0) 0) (length places) p 0 q) (c .inside (getD places p 0) (b .below p q));
+      }
+
+pub roomy-part : (k l : ℕ) (num : List Float) (blocked : List ℕ) (x some-x : List Float) (free some-free : List ℕ)
+    → Roomy k num blocked x free 0 → l ≤ k → length some-x ≡ l → length some-free ≡ l → Roomy l num blocked some-x some-free 0
+roomy-part k l num blocked x some-x free some-free r h ex ef =
+    record { room = omega (arith, r .room, mul-le-mul h h); wide = ex; marks = ef; most = omega arith }
+
+-- ---- what the phase leaves
+
+module _ (u : List Float) (n : ℕ) (cols : List ℕ) (scale : List Float) (places : List ℕ) (rows rng : ℕ) (num x : List Float) (free : List ℕ) where
+  abbrev matrix : ℕ → ℕ → Float
+  matrix = entryOf u n cols scale
+
+  -- the phase on the chosen columns is the phase on those at the places
+  inside-is : phaseOf plusZero (entryOf u n (wordsAt cols places) (chosen scale places)) (length places) rows
+      (begun plusZero (entryOf u n (wordsAt cols places) (chosen scale places)) (length places) rows (chosen x places) (axIn rows num) rng)
+      ≡ insideOf matrix rows places rng num x
+  inside-is =
+      ap (phaseOf plusZero (entryOf u n (wordsAt cols places) (chosen scale places)) (length places) rows)
+      (begun-same plusZero (entryOf u n (wordsAt cols places) (chosen scale places)) (λ p. matrix (getD places p 0)) (length places) rows
+      (λ p i h _. entry-chosen u n cols scale places p h i) (chosen x places) (axIn rows num) rng)
+      ∙ phase-same plusZero (entryOf u n (wordsAt cols places) (chosen scale places)) (λ p. matrix (getD places p 0)) (length places) rows
+      (λ p i h _. entry-chosen u n cols scale places p h i) _
+
+  module _ (some-cols : List ℕ) (some-scale some-x : List Float)
+      (ec : some-cols ≡ wordsAt cols places) (es : some-scale ≡ chosen scale places) (ex : some-x ≡ chosen x places) where
+    pub phased-at : (w : Walk) (num' x' : List Float) (free' : List ℕ) (frozen rng' : ℕ)
+        → w ≡ phaseOf plusZero (entryOf u n some-cols some-scale) (length some-cols) rows
+        (begun plusZero (entryOf u n some-cols some-scale) (length some-cols) rows some-x (axIn rows num) rng)
+        → frozen ≡ w .frozen → axIn rows num' ≡ w .ax → rng' ≡ w .rng
+        → x' ≡ putBack plusZero places (w .x) x (length places)
+        → free' ≡ putBack 0 places (w .free) free (length places)
+        → PhasedAt matrix rows places rng num x free frozen rng' num' x' free'
+    phased-at w num' x' free' frozen rng' e ef ea er mx mf =
+        let lc : length (wordsAt cols places) ≡ length places = length-tab {A = ℕ} (λ q. getD cols (getD places q 0) 0) (length places) in
+        let i : w ≡ insideOf matrix rows places rng num x = rw (ec, es, ex, lc) at e ∙ inside-is in
+        record {
+          froze = ef ∙ ap (λ (v : Walk). v .frozen) i;
+          moves = mx ∙ ap (λ (v : Walk). putBack plusZero places (v .x) x (length places)) i;
+          marks = mf ∙ ap (λ (v : Walk). putBack 0 places (v .free) free (length places)) i;
+          ax = ea ∙ ap (λ (v : Walk). v .ax) i;
+          draws = er ∙ ap (λ (v : Walk). v .rng) i;
+        }
+
+-- ---- a phase on the free columns
+
+-- the places of the marks that are set lie below, and are not more
+pub places-below : (free places : List ℕ) (k l : ℕ) → length free ≡ k → Pushed (keep (isSet free) (length free)) l places
+    → Below (take l places) k × (length (take l places) ≤ k)
+places-below free places k l e p =
+    rw (p .front, e) (record { below = λ q h. keep-good (isSet free) k q h .1 }, keep-short (isSet free) k)
+
+module _ (a : ℕ → ℕ → Float) (k rows : ℕ) (rng : ℕ) (num x : List Float) (free places : List ℕ) (frozen rng' : ℕ) (num' x' : List Float) (free' : List ℕ)
+    (is : places ≡ keep (isSet free) k) (at : PhasedAt a rows places rng num x free frozen rng' num' x' free') where
+  -- what stands once the phase's coordinates are back at some places
+  abbrev after : List ℕ → Between
+  after ps = record {
+    x = putBack plusZero ps (insideOf a rows ps rng num x .x) x (length ps);
+    free = putBack 0 ps (insideOf a rows ps rng num x .free) free (length ps);
+    ax = insideOf a rows ps rng num x .ax;
+    rng = insideOf a rows ps rng num x .rng;
+  }
+
+  stands : between rows num' x' free' rng' ≡ after places
+  stands = rw (at .moves, at .marks, at .ax, at .draws)
+
+  picks : (t : Bool) → eqb frozen 0 ≡ t → phased plusZero a k rows (between rows num x free rng) ≡ pick t (roundedOff (after places)) (after places)
+  unfolding phased
+  picks t e =
+      let f : eqb (insideOf a rows (keep (isSet free) k) rng num x .frozen) 0 ≡ t = rw (at .froze, is) at e in
+      rw is (ap (λ (s : Bool). pick s (roundedOff (after (keep (isSet free) k))) (after (keep (isSet free) k))) f)
+
+  -- a phase that froze some
+  pub phase-goes : frozen ≢ 0 → between rows num' x' free' rng' ≡ phased plusZero a k rows (between rows num x free rng)
+  phase-goes f = stands ∙ sym (picks false (ne-eqb frozen 0 f))
+
+  -- a phase that froze none: what is free is rounded
+  pub phase-rounds : (x'' : List Float) (free'' : List ℕ) → frozen ≡ 0
+      → x'' ≡ tabulate (roundedAt x' free') (length x') → free'' ≡ repeated 0 (length free')
+      → between rows num' x'' free'' rng' ≡ phased plusZero a k rows (between rows num x free rng)
+  phase-rounds x'' free'' f ex ef =
+      let r : between rows num' x'' free'' rng' ≡ roundedOff (between rows num' x' free' rng') = rw (ex, ef) in
+      r ∙ ap roundedOff stands ∙ sym (picks true (eq-eqb frozen 0 f))

@@ -1,0 +1,2 @@
+-- The laws of a phase on the free columns.
+mod Inside

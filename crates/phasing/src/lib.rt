@@ -1,0 +1,134 @@
+// One phase of the walk on the free columns: they are chosen, the phase is made on them, and they are put back.
+use draw::SplitMix64;
+use places::choose;
+use places::choose_words;
+use places::free_places;
+use places::put_back;
+use places::put_back_words;
+use places::round_free;
+use seq::fill_words;
+use walk::phase;
+ghost use mathlib.Core.Path.{_≡_};
+ghost use Prim.Native.Nat.{_≤_};
+ghost use lib.ListN.{length};
+ghost use Rattle.seq.specs.Sums.{plusZero};
+ghost use Rattle.entries.specs.Entries.{entryOf, Chosen};
+ghost use Rattle.freeze.specs.Held.{Roomy};
+ghost use Rattle.places.specs.Places.{Below};
+ghost use Rattle.phasing.specs.Phase.{phased};
+ghost use Rattle.phasing.specs.Phasing.{between, PhasedAt};
+
+// How many coordinates froze, and the generator.
+struct Phased {
+    frozen: usize,
+    rng: SplitMix64,
+}
+
+// A phase on the columns at some places; the four slices are room for what is chosen there.
+fn phase_on(
+    num: &mut [f64],
+    blocked: &mut [u32],
+    x: &mut [f64],
+    free: &mut [u32],
+    places: &[u32],
+    u: &[f64],
+    n: usize,
+    cols: &[u32],
+    scale: &[f64],
+    rng: SplitMix64,
+    subcols: &mut [u32],
+    subscale: &mut [f64],
+    subx: &mut [f64],
+    subfree: &mut [u32],
+) -> Phased
+    requires { ⌜ Chosen (now u) n (now cols) (now scale) (length (now blocked)) × Roomy (length (now cols)) (now num) (now blocked) (now x) (now free) 0 × Below (now places) (length (now cols)) × (length (now places) ≤ length (now cols)) ⌝ }
+    requires { ⌜ (length (now subcols) ≡ length (now places)) × (length (now subscale) ≡ length (now places)) × (length (now subx) ≡ length (now places)) × (length (now subfree) ≡ length (now places)) ⌝ }
+    ensures { λ r. ⌜ PhasedAt (entryOf (now (u .entry)) n (now (cols .entry)) (now (scale .entry))) (length (now (blocked .entry))) (now (places .entry)) (rng .state) (now (num .entry)) (now (x .entry)) (now (free .entry)) (r .frozen) (r .rng .state) (now (num .exit)) (now (x .exit)) (now (free .exit)) ⌝ }
+{
+    choose_words(&mut subcols[..], cols, places);
+    choose(&mut subscale[..], scale, places);
+    choose(&mut subx[..], &x[..], places);
+    let at = phase(
+        num,
+        blocked,
+        &mut subx[..],
+        &mut subfree[..],
+        u,
+        n,
+        &subcols[..],
+        &subscale[..],
+        rng,
+    );
+    put_back(x, places, &subx[..]);
+    put_back_words(free, places, &subfree[..]);
+    let r = at.rng;
+    Phased {
+        frozen: at.frozen,
+        rng: r,
+    }
+}
+
+// The same, with room of its own.
+fn phase_at(
+    num: &mut [f64],
+    blocked: &mut [u32],
+    x: &mut [f64],
+    free: &mut [u32],
+    places: &[u32],
+    u: &[f64],
+    n: usize,
+    cols: &[u32],
+    scale: &[f64],
+    rng: SplitMix64,
+) -> Phased
+    requires { ⌜ Chosen (now u) n (now cols) (now scale) (length (now blocked)) × Roomy (length (now cols)) (now num) (now blocked) (now x) (now free) 0 × Below (now places) (length (now cols)) × (length (now places) ≤ length (now cols)) ⌝ }
+    ensures { λ r. ⌜ PhasedAt (entryOf (now (u .entry)) n (now (cols .entry)) (now (scale .entry))) (length (now (blocked .entry))) (now (places .entry)) (rng .state) (now (num .entry)) (now (x .entry)) (now (free .entry)) (r .frozen) (r .rng .state) (now (num .exit)) (now (x .exit)) (now (free .exit)) ⌝ }
+{
+    let l = places.len();
+    let mut some_cols = [0u32; 256];
+    let mut some_scale = [0.0f64; 256];
+    let mut some_x = [0.0f64; 256];
+    let mut some_free = [0u32; 256];
+    phase_on(
+        num,
+        blocked,
+        x,
+        free,
+        places,
+        u,
+        n,
+        cols,
+        scale,
+        rng,
+        &mut some_cols[..l],
+        &mut some_scale[..l],
+        &mut some_x[..l],
+        &mut some_free[..l],
+    )
+}
+
+// A phase on the free columns; a phase that freezes nothing rounds them.
+pub fn next_phase(
+    num: &mut [f64],
+    blocked: &mut [u32],
+    x: &mut [f64],
+    free: &mut [u32],
+    u: &[f64],
+    n: usize,
+    cols: &[u32],
+    scale: &[f64],
+    rng: SplitMix64,
+) -> SplitMix64
+    requires { ⌜ Chosen (now u) n (now cols) (now scale) (length (now blocked)) × Roomy (length (now cols)) (now num) (now blocked) (now x) (now free) 0 ⌝ }
+    ensures { λ r. ⌜ between (length (now (blocked .entry))) (now (num .exit)) (now (x .exit)) (now (free .exit)) (r .state) ≡ phased plusZero (entryOf (now (u .entry)) n (now (cols .entry)) (now (scale .entry))) (length (now (cols .entry))) (length (now (blocked .entry))) (between (length (now (blocked .entry))) (now (num .entry)) (now (x .entry)) (now (free .entry)) (rng .state)) ⌝ }
+{
+    let mut places = [0u32; 256];
+    let l = free_places(&mut places[..], &free[..]);
+    let p = phase_at(num, blocked, x, free, &places[..l], u, n, cols, scale, rng);
+    if p.frozen == 0 {
+        round_free(x, &free[..]);
+        fill_words(free, 0);
+    }
+    let r = p.rng;
+    r
+}

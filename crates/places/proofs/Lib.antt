@@ -1,0 +1,3 @@
+-- The laws of the places.
+pub mod Places
+mod Rounding
