@@ -7,7 +7,7 @@ use report::print_bits;
 use report::print_weights;
 use report::put;
 use report::tab;
-use sparsification::Cap;
+use rules::Cap;
 use sparsification::sparsify;
 use sparsification::sparsify_within;
 ghost use Prim.Native.Nat.{_≤_, _*_};

@@ -12,8 +12,8 @@ use Rattle.fields.specs.Bytes.{byteAt, spelled}
 use Rattle.fields.specs.Fields.{bitsAt, countAt}
 use Rattle.fields.proofs.Widths.{count-next}
 use Rattle.fields.specs.declared.Field.{Field}
-use Rattle.sparsification.specs.declared.Cap.the-variants.{Absent, AtMost}
-use Rattle.sparsification.specs.declared.Rule.the-variants.{Within}
+use Rattle.rules.specs.declared.Cap.the-variants.{Absent, AtMost}
+use Rattle.rules.specs.declared.Rule.the-variants.{Within}
 use Rattle.form.specs.Words.{thinWord, targetWord, withinWord, dash}
 use Rattle.form.specs.Form.{capAt, targetAt, withinAt, noRule, ruleAt, sizesAt, headOf}
 use Rattle.form.proofs.Places.{sizes-next, rule-next}

@@ -17,8 +17,8 @@ use Rattle.fields.specs.declared.Field.{Field}
 use Rattle.fields.proofs.Every.{every-same}
 use Rattle.fields.proofs.Widths.{count-next}
 use Rattle.fields.proofs.Longer.{byte-longer, spelled-longer, bits-longer, bits-at-longer, count-longer-12}
-use Rattle.sparsification.specs.declared.Cap.the-variants.{Absent, AtMost}
-use Rattle.sparsification.specs.declared.Rule.the-variants.{Target}
+use Rattle.rules.specs.declared.Cap.the-variants.{Absent, AtMost}
+use Rattle.rules.specs.declared.Rule.the-variants.{Target}
 use Rattle.form.specs.Words.{thinWord, targetWord, withinWord, colWord, dash}
 use Rattle.form.specs.Form.{capAt, targetAt, withinAt, noRule, ruleAt, sizesAt, headOf, lineLong, isEntry, isColumn, columnsFrom, wrongLine}
 use Rattle.form.specs.declared.CapField.{CapField}

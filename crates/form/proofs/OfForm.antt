@@ -22,9 +22,9 @@ use Rattle.fields.proofs.Values.{both}
 use Rattle.fields.proofs.Every.{every-holds}
 use Rattle.fields.proofs.Widths.{length-bits}
 use Rattle.fields.proofs.Words.{spelled-at}
-use Rattle.sparsification.specs.declared.Cap.{Cap}
-use Rattle.sparsification.specs.declared.Cap.the-variants.{Absent, AtMost}
-use Rattle.sparsification.specs.declared.Rule.the-variants.{Target, Within}
+use Rattle.rules.specs.declared.Cap.{Cap}
+use Rattle.rules.specs.declared.Cap.the-variants.{Absent, AtMost}
+use Rattle.rules.specs.declared.Rule.the-variants.{Target, Within}
 use Rattle.form.specs.Words.{thinWord, targetWord, withinWord, colWord, dash}
 use Rattle.form.specs.Form.{capAt, targetAt, withinAt, ruleAt, sizesAt, headOf, lineLong, isEntry, isColumn, endOf, wrongLine}
 use Rattle.form.specs.Reading.{weightsOf, matrixOf}

@@ -15,7 +15,7 @@ use Rattle.fields.specs.Texts.{bitsText, countText}
 use Rattle.fields.proofs.Values.{both}
 use Rattle.fields.proofs.Every.{every-at}
 use Rattle.fields.proofs.BitsBack.{bits-below}
-use Rattle.sparsification.specs.declared.Cap.the-variants.{Absent, AtMost}
+use Rattle.rules.specs.declared.Cap.the-variants.{Absent, AtMost}
 use Rattle.form.specs.Words.{thinWord, targetWord, withinWord, colWord, dash}
 use Rattle.form.specs.Form.{capAt, targetAt, withinAt, noRule, ruleAt, sizesAt, headOf, lineLong, isEntry, isColumn, endOf, wrongLine}
 use Rattle.form.specs.Reading.{weightPlace}

@@ -9,8 +9,8 @@ use Rattle.seq.specs.Choice.{pick}
 use Rattle.limits.specs.Limits.{allTo}
 use Rattle.fields.specs.Bytes.{tab, newline, byteAt, spelled}
 use Rattle.fields.specs.Fields.{isBits, bitsAt, countAt}
-use Rattle.sparsification.specs.declared.Cap.the-variants.{Absent, AtMost}
-use Rattle.sparsification.specs.declared.Rule.the-variants.{Target, Within}
+use Rattle.rules.specs.declared.Cap.the-variants.{Absent, AtMost}
+use Rattle.rules.specs.declared.Rule.the-variants.{Target, Within}
 use Rattle.form.specs.Words.{thinWord, targetWord, withinWord, colWord, dash}
 use Rattle.form.specs.declared.CapField.{CapField}
 use Rattle.form.specs.declared.RuleField.{RuleField}

@@ -10,10 +10,10 @@ use Rattle.seq.specs.Lists.{tabulate}
 use Rattle.fields.specs.Bytes.{tab, newline, spelled}
 use Rattle.fields.specs.Fields.{bitsAt, countAt}
 use Rattle.fields.specs.Texts.{bitsText, countText}
-use Rattle.sparsification.specs.declared.Cap.{Cap}
-use Rattle.sparsification.specs.declared.Cap.the-variants.{Absent, AtMost}
-use Rattle.sparsification.specs.declared.Rule.{Rule}
-use Rattle.sparsification.specs.declared.Rule.the-variants.{Target, Within}
+use Rattle.rules.specs.declared.Cap.{Cap}
+use Rattle.rules.specs.declared.Cap.the-variants.{Absent, AtMost}
+use Rattle.rules.specs.declared.Rule.{Rule}
+use Rattle.rules.specs.declared.Rule.the-variants.{Target, Within}
 use Rattle.form.specs.Words.{thinWord, targetWord, withinWord, colWord, dash}
 use Rattle.form.specs.Form.{capAt, sizesAt, headOf, wrongLine}
 use Rattle.form.specs.Reading.{weightPlace, weightsOf, matrixOf}

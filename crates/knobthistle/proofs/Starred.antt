@@ -22,21 +22,22 @@ use Rattle.margins.specs.Margins.{changeTo, maxChange}
 use Rattle.halving.specs.Weights.{nonzeros, isOn, l1Of, normalized}
 use Rattle.halving.specs.Ranking.{heavier}
 use Rattle.halving.specs.Alone.{Largest, Alone}
-use Rattle.sparsification.specs.Stages.{stageOf}
-use Rattle.sparsification.specs.Stopping.{rests, stops}
-use Rattle.sparsification.specs.Faults.{ruleFault, sizeFault, valueFault, jobFault}
+use Rattle.stages.specs.Stages.{stageOf}
+use Rattle.stages.specs.Stopping.{rests, stops}
+use Rattle.rules.specs.Rules.{ruleFault}
+use Rattle.faults.specs.Faults.{sizeFault, valueFault, jobFault}
 use Rattle.sparsification.specs.Answers.{refusal, answerAt, Thinned}
 use Rattle.sparsification.specs.declared.Answer.{Answer}
-use Rattle.sparsification.specs.declared.Cap.the-variants.{Absent, AtMost}
-use Rattle.sparsification.specs.declared.Rule.{Rule}
-use Rattle.sparsification.specs.declared.Rule.the-variants.{Target, Within}
+use Rattle.rules.specs.declared.Cap.the-variants.{Absent, AtMost}
+use Rattle.rules.specs.declared.Rule.{Rule}
+use Rattle.rules.specs.declared.Rule.the-variants.{Target, Within}
 use Rattle.draw.specs.Uniform.{uniformAt}
 use Rattle.draw.proofs.Cases.{state-becomes-zero, largest}
 use Rattle.margins.proofs.SmallCase.{answered}
-use Rattle.sparsification.proofs.Choosing.{first-holds}
-use Rattle.sparsification.proofs.Halting.{FirstStop, few-rests}
+use Rattle.rules.proofs.Choosing.{first-holds}
+use Rattle.stages.proofs.Halting.{FirstStop, few-rests}
 use Rattle.sparsification.proofs.Accepting.{values-good}
-use Rattle.sparsification.proofs.Passing.{normal-start}
+use Rattle.stages.proofs.Passing.{normal-start}
 use Rattle.sparsification.proofs.DemandThree.{Doubles}
 use Rattle.sparsification.proofs.Settled.{stage-alone, first-sound, settled}
 use Rattle.knobthistle.specs.Cases.{table, hold, half, underHalf, quarter, threeQuarters, one, minusOne, three, minusThree, four, smallest, matrix, by, any, thins, refuses, refusesRule, draws, uniform, Room, called, holds}

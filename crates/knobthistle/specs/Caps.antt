@@ -2,8 +2,8 @@
 use Prim.Native.Nat.{ℕ}
 use lib.Dec.{eqb}
 use Rattle.seq.specs.Choice.{pick}
-use Rattle.sparsification.specs.declared.Cap.{Cap}
-use Rattle.sparsification.specs.declared.Cap.the-variants.{Absent, AtMost}
+use Rattle.rules.specs.declared.Cap.{Cap}
+use Rattle.rules.specs.declared.Cap.the-variants.{Absent, AtMost}
 
 -- none where `capped` is 0
 abbrev pub capOf : ℕ → ℕ → Cap

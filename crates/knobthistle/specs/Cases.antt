@@ -12,11 +12,11 @@ use Rattle.draw.specs.Uniform.{uniformOf}
 use Rattle.limits.specs.Limits.{numbersNeeded, indicesNeeded}
 use Rattle.margins.specs.Answers.{changeAnswer}
 use Rattle.sparsification.specs.Answers.{refusal, Thinned}
-use Rattle.sparsification.specs.Faults.{ruleFault}
+use Rattle.rules.specs.Rules.{ruleFault}
 use Rattle.sparsification.specs.declared.Answer.{Answer}
-use Rattle.sparsification.specs.declared.Cap.the-variants.{Absent, AtMost}
-use Rattle.sparsification.specs.declared.Rule.{Rule}
-use Rattle.sparsification.specs.declared.Rule.the-variants.{Target, Within}
+use Rattle.rules.specs.declared.Cap.the-variants.{Absent, AtMost}
+use Rattle.rules.specs.declared.Rule.{Rule}
+use Rattle.rules.specs.declared.Rule.the-variants.{Target, Within}
 
 -- ---- what a row can claim
 

@@ -3,9 +3,9 @@ use discrepancy::discrepancy_coloring;
 use draw::SplitMix64;
 use margins::max_margin_change;
 use margins::turned_words;
+use rules::Cap;
 use sheet::thin_sheet;
 use sparsification::Answer;
-use sparsification::Cap;
 use sparsification::sparsify;
 use sparsification::sparsify_within;
 ghost use mathlib.Core.Path.{_≡_};
@@ -16,7 +16,7 @@ ghost use Rattle.draw.specs.Gaussian.{lnOfDraw, cosOfDraw, gaussianOf, afterGau
 ghost use Rattle.discrepancy.specs.Discrepancy.{DiscrepancyColored};
 ghost use Rattle.knobthistle.specs.Caps.{capOf};
 ghost use Rattle.sparsification.specs.Answers.{Thinned};
-ghost use Rattle.sparsification.specs.declared.Rule.the-variants.{Target, Within};
+ghost use Rattle.rules.specs.declared.Rule.the-variants.{Target, Within};
 ghost use Rattle.margins.specs.Answers.{changeAnswer, turnedAnswer};
 ghost use Rattle.sheet.specs.Steps.{Answered};
 

@@ -12,9 +12,10 @@ use lib.ListN.{length}
 use lib.Ieee.{Float}
 use Rattle.seq.specs.Choice.{pick, orElse}
 use Rattle.limits.specs.Limits.{tooLarge, scratchShort, numbersNeeded, indicesNeeded}
-use Rattle.sparsification.specs.declared.Rule.{Rule}
+use Rattle.rules.specs.declared.Rule.{Rule}
 use Rattle.sparsification.specs.declared.Answer.{Answer}
-use Rattle.sparsification.specs.Faults.{ruleFault, sizeFault, valueFault, jobFault}
+use Rattle.rules.specs.Rules.{ruleFault}
+use Rattle.faults.specs.Faults.{sizeFault, valueFault, jobFault}
 use Rattle.sparsification.specs.Answers.{refusal, answerOf, returned, Thinned}
 use Rattle.sheet.specs.Answer.{answerText, sheetFault, jobAnswer, jobText}
 use Rattle.sheet.specs.Steps.{Wrote}

@@ -19,9 +19,9 @@ use Rattle.fields.proofs.Widths.{length-count, width-most}
 use Rattle.limits.specs.Matrix.{columnsOf}
 use Rattle.halving.specs.Weights.{normalized}
 use Rattle.sparsification.specs.declared.Answer.{Answer}
-use Rattle.sparsification.specs.declared.Rule.{Rule}
+use Rattle.rules.specs.declared.Rule.{Rule}
 use Rattle.sparsification.specs.Answers.{returned, stopFor}
-use Rattle.sparsification.proofs.Lengths.{length-normalized, length-stage}
+use Rattle.stages.proofs.Lengths.{length-normalized, length-stage}
 use Rattle.form.specs.declared.Head.{Head}
 use Rattle.form.specs.Form.{headOf, wrongLine}
 use Rattle.form.specs.Reading.{doubleAt, weightPlace, weightsOf, matrixOf}

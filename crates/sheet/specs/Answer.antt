@@ -9,9 +9,10 @@ use Rattle.seq.specs.Choice.{pick, orElse}
 use Rattle.seq.specs.Sums.{at}
 use Rattle.fields.specs.Bytes.{tab, newline}
 use Rattle.fields.specs.Texts.{bitsText, countText}
-use Rattle.sparsification.specs.declared.Rule.{Rule}
+use Rattle.rules.specs.declared.Rule.{Rule}
 use Rattle.sparsification.specs.declared.Answer.{Answer}
-use Rattle.sparsification.specs.Faults.{ruleFault, valueFault}
+use Rattle.rules.specs.Rules.{ruleFault}
+use Rattle.faults.specs.Faults.{valueFault}
 use Rattle.sparsification.specs.Answers.{refusal, answerOf, returned}
 use Rattle.sheet.specs.Words.{okWord, weightWord, refusedWord, badWord}
 use Rattle.form.specs.Form.{headOf, wrongLine}

@@ -16,12 +16,13 @@ use Rattle.limits.specs.Limits.{tooLarge, scratchShort, numbersNeeded, indicesN
 use Rattle.direction.specs.Constants.{one}
 use Rattle.halving.specs.Weights.{nonzeros, normalized, l1Of, sound}
 use Rattle.limits.specs.Matrix.{columnsOf}
-use Rattle.sparsification.specs.Stages.{movedBy}
+use Rattle.stages.specs.Stages.{movedBy}
 use Rattle.sparsification.specs.Answers.{refusal, answerOf, lateFor, stopFor, returned, Thinned}
-use Rattle.sparsification.specs.Faults.{ruleFault, sizeFault, valueFault, jobFault}
+use Rattle.rules.specs.Rules.{ruleFault}
+use Rattle.faults.specs.Faults.{sizeFault, valueFault, jobFault}
 use Rattle.sparsification.specs.declared.Answer.{Answer}
-use Rattle.sparsification.specs.declared.Rule.{Rule}
-use Rattle.sparsification.proofs.Choosing.{neither, both, never, shown}
+use Rattle.rules.specs.declared.Rule.{Rule}
+use Rattle.rules.proofs.Choosing.{neither, both, never, shown}
 
 -- the first of two numbers that is not 0
 pub no-fault : (a b : ℕ) → orElse a b ≡ 0 → (a ≡ 0) × (b ≡ 0)

@@ -18,20 +18,21 @@ use Rattle.halving.specs.Weights.{nonzeros, normalized}
 use Rattle.halving.specs.Halving.{passOf}
 use Rattle.halving.specs.Halves.{halvesOf}
 use Rattle.halving.proofs.Fewer.{pass-good}
-use Rattle.sparsification.specs.Stages.{stageOf, movedBy}
-use Rattle.sparsification.specs.Stopping.{entriesAt, rests, breaks, stopOf, lateNumber}
-use Rattle.sparsification.specs.Faults.{ruleFault, jobFault}
+use Rattle.stages.specs.Stages.{stageOf, movedBy}
+use Rattle.stages.specs.Stopping.{entriesAt, rests, breaks, stopOf, lateNumber}
+use Rattle.rules.specs.Rules.{ruleFault}
+use Rattle.faults.specs.Faults.{jobFault}
 use Rattle.sparsification.specs.Answers.{stopFor, Thinned}
 use Rattle.sparsification.specs.Demand.{allows, keeps, Later}
 use Rattle.sparsification.specs.declared.Answer.{Answer}
-use Rattle.sparsification.specs.declared.Cap.the-variants.{Absent, AtMost}
-use Rattle.sparsification.specs.declared.Rule.{Rule}
-use Rattle.sparsification.specs.declared.Rule.the-variants.{Target, Within}
-use Rattle.sparsification.proofs.Choosing.{ways, never, both-hold}
-use Rattle.sparsification.proofs.Halting.{Goes, goes, few-rests, stop-is-first, sound-to}
-use Rattle.sparsification.proofs.Lengths.{length-stage, length-normalized}
+use Rattle.rules.specs.declared.Cap.the-variants.{Absent, AtMost}
+use Rattle.rules.specs.declared.Rule.{Rule}
+use Rattle.rules.specs.declared.Rule.the-variants.{Target, Within}
+use Rattle.rules.proofs.Choosing.{ways, never, both-hold}
+use Rattle.stages.proofs.Halting.{Goes, goes, few-rests, stop-is-first, sound-to}
+use Rattle.stages.proofs.Lengths.{length-stage, length-normalized}
 use Rattle.sparsification.proofs.Monotone.{Double, no-sooner, among-stops, target-kept, cap-kept, allowance-kept}
-use Rattle.sparsification.proofs.Passing.{falling, normal-stage, signed-stage, normal-start}
+use Rattle.stages.proofs.Passing.{falling, normal-stage, signed-stage, normal-start}
 use Rattle.sparsification.proofs.Accepting.{Accepted, accepted, number-none, number-there, answer-stage, output-stage}
 
 -- every weight is a double

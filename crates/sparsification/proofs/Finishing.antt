@@ -13,17 +13,23 @@ use Rattle.seq.specs.Choice.{pick}
 use Rattle.seq.specs.Lists.{repeated}
 use Rattle.seq.specs.Sums.{plusZero}
 use Rattle.limits.specs.Matrix.{columnsOf}
-use Rattle.halving.specs.Weights.{l1Of, sound, normalized}
+use Rattle.margins.specs.Margins.{maxChange}
+use Rattle.halving.specs.Weights.{nonzeros, l1Of, sound, normalized}
 use Rattle.halving.specs.Halves.{Ready}
-use Rattle.sparsification.specs.Stages.{stageOf}
-use Rattle.sparsification.specs.Stopping.{rests, breaks, stopOf, lateNumber}
-use Rattle.sparsification.specs.Faults.{jobFault}
-use Rattle.sparsification.specs.Paths.{Followed}
+use Rattle.stages.specs.Stages.{stageOf}
+use Rattle.stages.specs.Stopping.{rests, breaks, stopOf, lateNumber}
+use Rattle.faults.specs.Faults.{jobFault}
+use Rattle.stages.specs.Paths.{Followed}
 use Rattle.sparsification.specs.Answers.{refusal, answerAt, answerOf, returned, Thinned, ThinnedFrom}
 use Rattle.sparsification.specs.declared.Answer.{Answer}
-use Rattle.sparsification.specs.declared.Rule.{Rule}
-use Rattle.sparsification.specs.declared.paths.Reached.{Reached}
+use Rattle.rules.specs.declared.Rule.{Rule}
+use Rattle.stages.specs.declared.Reached.{Reached}
 use Rattle.sparsification.proofs.Accepting.{Sized}
+
+-- the answer
+pub answer-is : (u : ℕ → ℕ → Float) (n : ℕ) (start : List Float) (stage : ℕ) (w : List Float) (k : ℕ) (x : Float) → k ≡ nonzeros w → x ≡ maxChange u (length start) n start w
+    → _≡_ {A = Answer} (record { number = 0; stage = stage; nonzeros = k; change = x }) (answerAt u n start stage w)
+answer-is u n start stage w k x e f = rw (e, f)
 
 -- a job from normalized weights, w being what is left of them where the stages were followed from a copy
 module _ (u : ℕ → ℕ → Float) (n : ℕ) (start : List Float) (seed : ℕ) (rule : Rule) {copy w : List Float} {f : Reached} (copied : copy ≡ start) (follows : Followed u n copy seed rule f w) where

@@ -14,12 +14,12 @@ use Rattle.halving.specs.Weights.{nonzeros, normalized}
 use Rattle.halving.specs.Halves.{halvesOf}
 use Rattle.halving.proofs.Fewer.{pass-good}
 use Rattle.halving.proofs.Quarter.{pass-at-most}
-use Rattle.sparsification.specs.Stages.{stageOf}
-use Rattle.sparsification.specs.Stopping.{entriesAt, stops}
+use Rattle.stages.specs.Stages.{stageOf}
+use Rattle.stages.specs.Stopping.{entriesAt, stops}
 use Rattle.sparsification.specs.Answers.{Thinned}
 use Rattle.sparsification.specs.declared.Answer.{Answer}
-use Rattle.sparsification.specs.declared.Rule.the-variants.{Target}
-use Rattle.sparsification.proofs.Halting.{FirstStop}
+use Rattle.rules.specs.declared.Rule.the-variants.{Target}
+use Rattle.stages.proofs.Halting.{FirstStop}
 use Rattle.sparsification.proofs.Accepting.{accepted, number-none}
 use Rattle.sparsification.proofs.DemandThree.{Doubles, start-normal, start-few}
 use Rattle.sparsification.proofs.Settled.{first-sound, settled}

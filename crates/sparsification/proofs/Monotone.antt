@@ -15,18 +15,19 @@ use Rattle.seq.specs.Choice.{pick}
 use Rattle.seq.specs.Sums.{plusZero, at}
 use Rattle.ieee.specs.Units.{isNum}
 use Rattle.ieee.proofs.Ranks.{le-transitive}
-use Rattle.sparsification.specs.Stages.{stageOf, movedBy}
-use Rattle.sparsification.specs.Stopping.{meets, entriesAt, above, rests, breaks, exceeds, stops, stopOf, lateNumber}
-use Rattle.sparsification.specs.Faults.{ruleFault, capFault}
-use Rattle.sparsification.specs.Demand.{asTight, allows, Among}
-use Rattle.sparsification.specs.declared.Cap.{Cap}
-use Rattle.sparsification.specs.declared.Cap.the-variants.{Absent, AtMost}
-use Rattle.sparsification.specs.declared.Rule.{Rule}
-use Rattle.sparsification.specs.declared.Rule.the-variants.{Target, Within}
-use Rattle.sparsification.proofs.Choosing.{neither, one-holds, both, never, weaker-or, weaker-and, weaker-not, shown, holds}
-use Rattle.sparsification.proofs.Halting.{Falls, FirstStop, Goes, goes, stop-is-first}
+use Rattle.stages.specs.Stages.{stageOf, movedBy}
+use Rattle.rules.specs.Rules.{meets, ruleFault, capFault}
+use Rattle.stages.specs.Stopping.{entriesAt, above, rests, breaks, exceeds, stops, stopOf, lateNumber}
+use Rattle.sparsification.specs.Demand.{asTight, allows}
+use Rattle.stages.specs.Among.{Among}
+use Rattle.rules.specs.declared.Cap.{Cap}
+use Rattle.rules.specs.declared.Cap.the-variants.{Absent, AtMost}
+use Rattle.rules.specs.declared.Rule.{Rule}
+use Rattle.rules.specs.declared.Rule.the-variants.{Target, Within}
+use Rattle.rules.proofs.Choosing.{neither, one-holds, both, never, weaker-or, weaker-and, weaker-not, shown, holds}
+use Rattle.stages.proofs.Halting.{Falls, FirstStop, Goes, goes, stop-is-first}
 use Rattle.sparsification.proofs.Unmoved.{moved-fits, no-change}
-use Rattle.sparsification.proofs.Lengths.{length-stage}
+use Rattle.stages.proofs.Lengths.{length-stage}
 
 -- the allowance of a rule is a double
 abbrev pub Double : Rule → Type 0

@@ -13,15 +13,15 @@ use Rattle.halving.specs.Halves.{halvesOf}
 use Rattle.halving.specs.Alone.{Largest, Alone}
 use Rattle.halving.proofs.Few.{largest-alone}
 use Rattle.halving.proofs.Fewer.{pass-good}
-use Rattle.sparsification.specs.Stages.{stageOf}
-use Rattle.sparsification.specs.Stopping.{entriesAt}
-use Rattle.sparsification.specs.Faults.{jobFault}
+use Rattle.stages.specs.Stages.{stageOf}
+use Rattle.stages.specs.Stopping.{entriesAt}
+use Rattle.faults.specs.Faults.{jobFault}
 use Rattle.sparsification.specs.Answers.{Thinned, answerAt}
 use Rattle.sparsification.specs.declared.Answer.{Answer}
-use Rattle.sparsification.specs.declared.Rule.{Rule}
-use Rattle.sparsification.proofs.Halting.{Goes, FirstStop, only, stop-is-first}
-use Rattle.sparsification.proofs.Lengths.{length-stage}
-use Rattle.sparsification.proofs.Passing.{falling, normal-stage}
+use Rattle.rules.specs.declared.Rule.{Rule}
+use Rattle.stages.proofs.Halting.{Goes, FirstStop, only, stop-is-first}
+use Rattle.stages.proofs.Lengths.{length-stage}
+use Rattle.stages.proofs.Passing.{falling, normal-stage}
 use Rattle.sparsification.proofs.Accepting.{accepted, number-none, answer-stage, output-stage}
 use Rattle.sparsification.proofs.DemandThree.{Doubles, answered-with-none}
 

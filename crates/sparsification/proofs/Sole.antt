@@ -7,7 +7,7 @@ use lib.Ieee.{Float}
 use Rattle.seq.specs.Choice.{pick}
 use Rattle.sparsification.specs.Answers.{returned, Thinned}
 use Rattle.sparsification.specs.declared.Answer.{Answer}
-use Rattle.sparsification.specs.declared.Rule.{Rule}
+use Rattle.rules.specs.declared.Rule.{Rule}
 
 pub record Same (r s : Answer) (output output' numbers numbers' : List Float) (indices indices' : List ℕ) : Type 0 where
   pub answer : r ≡ s

@@ -11,10 +11,11 @@ use Rattle.seq.specs.Sums.{plusZero, minusZero}
 use Rattle.halving.specs.Weights.{nonzeros, normalized}
 use Rattle.halving.specs.Halving.{Passed}
 use Rattle.halving.proofs.Starts.{normalized-same, pass-same}
-use Rattle.sparsification.specs.Stages.{Stage, nextStage, stageOf, movedBy}
-use Rattle.sparsification.specs.Stopping.{meets, rests, breaks, exceeds, stops, firstStop, stopOf, lateNumber}
-use Rattle.sparsification.specs.declared.Rule.{Rule}
-use Rattle.sparsification.specs.declared.Rule.the-variants.{Target, Within}
+use Rattle.stages.specs.Stages.{Stage, nextStage, stageOf, movedBy}
+use Rattle.rules.specs.Rules.{meets}
+use Rattle.stages.specs.Stopping.{rests, breaks, exceeds, stops, firstStop, stopOf, lateNumber}
+use Rattle.rules.specs.declared.Rule.{Rule}
+use Rattle.rules.specs.declared.Rule.the-variants.{Target, Within}
 
 module _ (u : ℕ → ℕ → Float) (n : ℕ) (start : List Float) (seed : ℕ) where
   stage-same : (i : ℕ) → stageOf minusZero u n start seed i ≡ stageOf plusZero u n start seed i

@@ -11,11 +11,11 @@ use Rattle.seq.specs.Sums.{plusZero}
 use Rattle.limits.specs.Matrix.{columnsOf}
 use Rattle.margins.specs.Margins.{maxChange}
 use Rattle.halving.specs.Weights.{nonzeros, normalized}
-use Rattle.sparsification.specs.Stages.{Stage, stageOf, movedBy}
-use Rattle.sparsification.specs.Stopping.{stopOf, lateNumber}
-use Rattle.sparsification.specs.Faults.{jobFault}
+use Rattle.stages.specs.Stages.{Stage, stageOf, movedBy}
+use Rattle.stages.specs.Stopping.{stopOf, lateNumber}
+use Rattle.faults.specs.Faults.{jobFault}
 use Rattle.sparsification.specs.declared.Answer.{Answer}
-use Rattle.sparsification.specs.declared.Rule.{Rule}
+use Rattle.rules.specs.declared.Rule.{Rule}
 
 -- a refusal: its number, and zeros
 abbrev pub refusal : ℕ → Answer

@@ -1,21 +1,21 @@
 -- Two jobs on one matrix, weights and seed, of one kind, the second allowing at least as much: its answer is the same or a later stage of the one
 -- sequence, its nonzero entries stand among the first's with the same signs, and each keeps what its rule asks for.
-use Prim.Native.Nat.{ℕ, _≤_, _<_}
+use Prim.Native.Nat.{ℕ, _≤_}
 use mathlib.Core.Path.{_≡_}
 use mathlib.Core.Bool.{Bool, true, false, _&&_}
 use mathlib.Core.List.{List}
 use lib.Dec.{leb}
-use lib.ListN.{length}
-use lib.Ieee.{Float, le, lt}
-use Rattle.seq.specs.Sums.{plusZero, at}
+use lib.Ieee.{Float, le}
+use Rattle.seq.specs.Sums.{plusZero}
 use Rattle.limits.specs.Matrix.{columnsOf}
-use Rattle.halving.specs.Weights.{isOn, normalized}
-use Rattle.sparsification.specs.Stages.{stageOf}
+use Rattle.halving.specs.Weights.{normalized}
+use Rattle.stages.specs.Stages.{stageOf}
+use Rattle.stages.specs.Among.{Among}
 use Rattle.sparsification.specs.declared.Answer.{Answer}
-use Rattle.sparsification.specs.declared.Cap.{Cap}
-use Rattle.sparsification.specs.declared.Cap.the-variants.{Absent, AtMost}
-use Rattle.sparsification.specs.declared.Rule.{Rule}
-use Rattle.sparsification.specs.declared.Rule.the-variants.{Target, Within}
+use Rattle.rules.specs.declared.Cap.{Cap}
+use Rattle.rules.specs.declared.Cap.the-variants.{Absent, AtMost}
+use Rattle.rules.specs.declared.Rule.{Rule}
+use Rattle.rules.specs.declared.Rule.the-variants.{Target, Within}
 
 -- The second cap is at least as hard to meet: any cap beside an absent one, and a cap that is no larger beside a cap.
 -- An absent cap beside a cap is not: with a matrix that moves a margin, allowance 0 and cap 1 thin to one entry, and allowance 0 alone stays at stage 0.
@@ -37,12 +37,6 @@ abbrev pub keeps : Rule → Answer → Bool
 keeps (Target t) r = leb (r .nonzeros) t
 keeps (Within a Absent) r = le (r .change) a
 keeps (Within a (AtMost c)) r = leb (r .nonzeros) c
-
--- every entry that is not 0 after was not 0 before, and has the sign that it had
-pub record Among (before after : List Float) : Type 0 where
-  pub on : (j : ℕ) → j < length before → isOn after j ≡ true → isOn before j ≡ true
-  pub above : (j : ℕ) → j < length before → isOn after j ≡ true → lt plusZero (at after j) ≡ lt plusZero (at before j)
-  pub under : (j : ℕ) → j < length before → isOn after j ≡ true → lt (at after j) plusZero ≡ lt (at before j) plusZero
 
 -- two answers r and s with their outputs, the second's rule given
 pub record Later (u : List Float) (n : ℕ) (w : List Float) (seed : ℕ) (rule : Rule) (r s : Answer) (first second : List Float) : Type 0 where

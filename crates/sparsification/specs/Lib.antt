@@ -1,7 +1,3 @@
--- The thinning: jobs, the sequence of stages, where a job stops, what it is refused for, and what it answers.
-pub mod Stages
-pub mod Stopping
-pub mod Faults
+-- The thinning: what a job answers, and what two jobs have to do with each other.
 pub mod Answers
-pub mod Paths
 pub mod Demand

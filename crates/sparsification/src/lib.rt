@@ -1,38 +1,25 @@
 // The thinning: sparsify, sparsify_within, and thin, which takes either's rule in a job.
-mod faults;
-mod paths;
-
-use crate::faults::job_fault;
-use crate::paths::follow;
+use faults::job_fault;
 use halving::count_nonzeros;
 use halving::normalize;
 use margins::change_of;
+use rules::Cap;
+use rules::Rule;
 use seq::clear;
 use seq::clear_words;
 use seq::copy;
+use stages::follow;
 ghost use mathlib.Core.Path.{_≡_};
 ghost use lib.ListN.{length};
 ghost use Rattle.seq.specs.Sums.{plusZero};
 ghost use Rattle.sparsification.specs.Answers.{refusal, answerAt, Thinned, ThinnedFrom};
-ghost use Rattle.sparsification.specs.Faults.{ruleFault};
-ghost use Rattle.sparsification.specs.declared.Rule.the-variants.{Target, Within};
+ghost use Rattle.rules.specs.Rules.{ruleFault};
+ghost use Rattle.rules.specs.declared.Rule.the-variants.{Target, Within};
 ghost use Rattle.limits.specs.Matrix.{columnsOf};
 ghost use Rattle.margins.specs.Blocks.{Lent};
 ghost use Rattle.halving.specs.Weights.{l1Of, sound, normalized};
 ghost use Rattle.halving.specs.Halves.{Ready};
 ghost use mathlib.Core.Bool.{true};
-
-// How many nonzero entries are allowed, if that is said.
-pub enum Cap {
-    Absent,
-    AtMost(usize),
-}
-
-// When a job stops: at so many nonzero entries, or before a change above the allowance.
-pub enum Rule {
-    Target(usize),
-    Within { allowance: f64, cap: Cap },
-}
 
 // A seed and a rule.
 pub struct Job {

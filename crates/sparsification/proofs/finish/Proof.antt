@@ -1,6 +1,6 @@
 -- `sparsification::finish` meets its contract: the output is the copy, and the record's parts are what the calls count and measure.
 use Rattle.limits.specs.Matrix.{columnsOf}
-use Rattle.sparsification.proofs.Trying.{answer-is}
+use Rattle.sparsification.proofs.Finishing.{answer-is}
 use borrow.Author.Needs.{needs}
 use Rattle.sparsification.proofs.finish.Statement.{statement}
 use Rattle.sparsification.proofs.finish.Tie as tie

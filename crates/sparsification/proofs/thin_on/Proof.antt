@@ -4,7 +4,7 @@ use Rattle.seq.specs.Lists.{repeated}
 use Rattle.seq.specs.Sums.{plusZero}
 use Rattle.limits.specs.Matrix.{columnsOf}
 use Rattle.halving.proofs.Calls.{ready-still}
-use Rattle.sparsification.proofs.Trying.{lent-of}
+use Rattle.trial.proofs.Trying.{lent-of}
 use Rattle.sparsification.proofs.Finishing.{done-from, late-from}
 use borrow.Author.Needs.{needs}
 use mathlib.Core.Path.{refl, sym, ap, _∙_}

@@ -2,7 +2,7 @@
 use lib.Seq.{length-take-le}
 use Rattle.seq.specs.Sums.{plusZero}
 use Rattle.halving.proofs.Calls.{ready-still}
-use Rattle.sparsification.proofs.Lengths.{length-normalized}
+use Rattle.stages.proofs.Lengths.{length-normalized}
 use Rattle.sparsification.proofs.Finishing.{normal-of}
 use borrow.Author.Needs.{needs}
 use mathlib.Core.Path.{refl, sym, ap, _∙_}

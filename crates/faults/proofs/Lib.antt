@@ -1,0 +1,2 @@
+-- The laws of what a job is refused for.
+pub mod Refusing

@@ -1,0 +1,101 @@
+-- The number that a job is refused by, for each way that the tests go in order: of its sizes, of its values, and of all.
+use Prim.Native.Nat.{ℕ, _*_, _≤_}
+use mathlib.Core.Path.{_≡_}
+use mathlib.Core.Bool.{true, false}
+use mathlib.Core.List.{List}
+use native.Mathlib.Nat.{mul-le-mul}
+use lib.ListN.{length}
+use lib.Ieee.{Float, lt}
+use lib.Ieee.Scale.{finite}
+use borrow.Author.Tests.{eq-eqb, ne-eqb}
+use Rattle.seq.specs.Sums.{plusZero, at}
+use Rattle.limits.specs.Limits.{tooLarge, scratchShort, bounded, allTo}
+use Rattle.direction.specs.Constants.{one}
+use Rattle.halving.specs.Weights.{l1Of}
+use Rattle.limits.proofs.Sizes.{small}
+use Rattle.rules.specs.Rules.{ruleFault}
+use Rattle.faults.specs.Faults.{sizeFault, valueFault, jobFault}
+use Rattle.rules.specs.declared.Rule.{Rule}
+
+-- a matrix that is not too large has few entries
+pub few-entries : (m n : ℕ) → tooLarge m n ≡ false → m * n ≤ 256 * 4096
+few-entries m n h = let s = small m n h in mul-le-mul (s .columns) (s .rows)
+
+module _ (m n matrix weights output numbers indices : ℕ) where
+  pub large-refused : tooLarge m n ≡ true → 3 ≡ sizeFault m n matrix weights output numbers indices
+  unfolding sizeFault
+  large-refused h = rw h
+
+  module _ (fine : tooLarge m n ≡ false) where
+    pub matrix-refused : (matrix ≡ m * n → ⊥) → 4 ≡ sizeFault m n matrix weights output numbers indices
+    unfolding sizeFault
+    matrix-refused h = rw (fine, ne-eqb matrix (m * n) h)
+
+    module _ (whole : matrix ≡ m * n) where
+      pub weights-refused : (weights ≡ m → ⊥) → 4 ≡ sizeFault m n matrix weights output numbers indices
+      unfolding sizeFault
+      weights-refused h = rw (fine, eq-eqb matrix (m * n) whole, ne-eqb weights m h)
+
+      module _ (given : weights ≡ m) where
+        pub output-refused : (output ≡ m → ⊥) → 4 ≡ sizeFault m n matrix weights output numbers indices
+        unfolding sizeFault
+        output-refused h = rw (fine, eq-eqb matrix (m * n) whole, eq-eqb weights m given, ne-eqb output m h)
+
+        module _ (left : output ≡ m) where
+          pub columns-refused : m ≡ 0 → 5 ≡ sizeFault m n matrix weights output numbers indices
+          unfolding sizeFault
+          columns-refused h = rw (fine, eq-eqb matrix (m * n) whole, eq-eqb weights m given, eq-eqb output m left, eq-eqb m 0 h)
+
+          module _ (columns : m ≡ 0 → ⊥) where
+            pub rows-refused : n ≡ 0 → 5 ≡ sizeFault m n matrix weights output numbers indices
+            unfolding sizeFault
+            rows-refused h = rw (fine, eq-eqb matrix (m * n) whole, eq-eqb weights m given, eq-eqb output m left, ne-eqb m 0 columns, eq-eqb n 0 h)
+
+            module _ (rows : n ≡ 0 → ⊥) where
+              pub scratch-refused : scratchShort m n numbers indices ≡ true → 6 ≡ sizeFault m n matrix weights output numbers indices
+              unfolding sizeFault
+              scratch-refused h = rw (fine, eq-eqb matrix (m * n) whole, eq-eqb weights m given, eq-eqb output m left, ne-eqb m 0 columns, ne-eqb n 0 rows, h)
+
+              pub sizes-fine : scratchShort m n numbers indices ≡ false → 0 ≡ sizeFault m n matrix weights output numbers indices
+              unfolding sizeFault
+              sizes-fine h = rw (fine, eq-eqb matrix (m * n) whole, eq-eqb weights m given, eq-eqb output m left, ne-eqb m 0 columns, ne-eqb n 0 rows, h)
+
+-- the values
+module _ (u w : List Float) where
+  pub entry-refused : bounded one u ≡ false → 7 ≡ valueFault u w
+  unfolding valueFault
+  entry-refused h = rw h
+
+  module _ (entries : bounded one u ≡ true) where
+    pub weight-refused : allTo (λ j. finite (at w j)) (length w) ≡ false → 8 ≡ valueFault u w
+    unfolding valueFault
+    weight-refused h = rw (entries, h)
+
+    module _ (ends : allTo (λ j. finite (at w j)) (length w) ≡ true) where
+      pub empty-refused : lt plusZero (l1Of plusZero w) ≡ false → 9 ≡ valueFault u w
+      unfolding valueFault
+      empty-refused h = rw (entries, ends, h)
+
+      pub endless-refused : lt plusZero (l1Of plusZero w) ≡ true → finite (l1Of plusZero w) ≡ false → 9 ≡ valueFault u w
+      unfolding valueFault
+      endless-refused h g = rw (entries, ends, h, g)
+
+      pub values-fine : lt plusZero (l1Of plusZero w) ≡ true → finite (l1Of plusZero w) ≡ true → 0 ≡ valueFault u w
+      unfolding valueFault
+      values-fine h g = rw (entries, ends, h, g)
+
+-- the first of them that is not 0
+module _ (rule : Rule) (u : List Float) (m n : ℕ) (w : List Float) (output numbers indices : ℕ) where
+  pub rule-refused : {first : ℕ} → first ≡ ruleFault rule → (first ≡ 0 → ⊥) → first ≡ jobFault rule u m n w output numbers indices
+  unfolding jobFault
+  rule-refused {first} e h = rw (← e, ne-eqb first 0 h)
+
+  pub sizes-refused : {first second : ℕ} → first ≡ ruleFault rule → first ≡ 0 → second ≡ sizeFault m n (length u) (length w) output numbers indices → (second ≡ 0 → ⊥)
+      → second ≡ jobFault rule u m n w output numbers indices
+  unfolding jobFault
+  sizes-refused {first} {second} e z f h = rw (← e, eq-eqb first 0 z, ← f, ne-eqb second 0 h)
+
+  pub values-left : {first second third : ℕ} → first ≡ ruleFault rule → first ≡ 0 → second ≡ sizeFault m n (length u) (length w) output numbers indices → second ≡ 0
+      → third ≡ valueFault u w → third ≡ jobFault rule u m n w output numbers indices
+  unfolding jobFault
+  values-left {first} {second} e z f y g = rw (← e, eq-eqb first 0 z, ← f, eq-eqb second 0 y) g

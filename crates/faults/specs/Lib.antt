@@ -1,0 +1,2 @@
+-- What a job is refused for.
+pub mod Faults

@@ -1,0 +1,105 @@
+// What a job is refused for before any work is done.
+use halving::l1;
+use ieee::is_finite;
+use limits::all_bounded;
+use limits::scratch_short;
+use limits::too_large;
+use rules::Rule;
+use rules::rule_fault;
+ghost use mathlib.Core.Path.{_≡_};
+ghost use lib.ListN.{length};
+ghost use lib.Ieee.Scale.{finite};
+ghost use Rattle.seq.specs.Sums.{at};
+ghost use Rattle.limits.specs.Limits.{allTo};
+ghost use Rattle.faults.specs.Faults.{sizeFault, valueFault, jobFault};
+
+// 3 to 6, of the sizes.
+fn size_fault(
+    m: usize,
+    n: usize,
+    matrix: usize,
+    weights: usize,
+    output: usize,
+    numbers: usize,
+    indices: usize,
+) -> u64
+    ensures { λ r. ⌜ r ≡ sizeFault m n matrix weights output numbers indices ⌝ }
+{
+    if too_large(m, n) {
+        return 3;
+    }
+    if matrix != m * n {
+        return 4;
+    }
+    if weights != m {
+        return 4;
+    }
+    if output != m {
+        return 4;
+    }
+    if m == 0 {
+        return 5;
+    }
+    if n == 0 {
+        return 5;
+    }
+    if scratch_short(m, n, numbers, indices) {
+        6
+    } else {
+        0
+    }
+}
+
+// Whether every weight is finite.
+fn all_finite(w: &[f64]) -> bool
+    ensures { λ r. ⌜ r ≡ allTo (λ j. finite (at (now (w .entry)) j)) (length (now (w .entry))) ⌝ }
+{
+    let mut ok = true;
+    let mut j = 0usize;
+    while j < w.len() {
+        ok = ok & is_finite(w[j]);
+        j += 1;
+    }
+    ok
+}
+
+// 7 to 9, of the values.
+fn value_fault(matrix: &[f64], weights: &[f64]) -> u64
+    ensures { λ r. ⌜ r ≡ valueFault (now (matrix .entry)) (now (weights .entry)) ⌝ }
+{
+    if !all_bounded(matrix, 1.0) {
+        return 7;
+    }
+    if !all_finite(weights) {
+        return 8;
+    }
+    let sum = l1(weights);
+    if !(sum > 0.0) {
+        return 9;
+    }
+    if is_finite(sum) { 0 } else { 9 }
+}
+
+// The lowest number that applies, or 0.
+pub fn job_fault(
+    rule: Rule,
+    matrix: &[f64],
+    m: usize,
+    n: usize,
+    weights: &[f64],
+    output: usize,
+    numbers: usize,
+    indices: usize,
+) -> u64
+    ensures { λ r. ⌜ r ≡ jobFault rule (now (matrix .entry)) m n (now (weights .entry)) output numbers indices ⌝ }
+{
+    let first = rule_fault(rule);
+    if first != 0 {
+        return first;
+    }
+    let second = size_fault(m, n, matrix.len(), weights.len(), output, numbers, indices);
+    if second != 0 {
+        return second;
+    }
+    value_fault(matrix, weights)
+}

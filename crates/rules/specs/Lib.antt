@@ -1,0 +1,2 @@
+-- The rules by which a job stops.
+pub mod Rules

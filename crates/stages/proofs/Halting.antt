@@ -1,0 +1,112 @@
+-- The search for the stage at which a job stops: where each pass leaves fewer nonzeros it finds the first stage that stops, and more fuel changes nothing.
+use Prim.Native.Nat.{ℕ, zero, suc, _+_, _≤_, _<_}
+use mathlib.Core.Path.{_≡_, refl}
+use mathlib.Core.Bool.{Bool, true, false, _||_}
+use mathlib.Core.List.{List}
+use native.Mathlib.Omega.{arith}
+use native.Mathlib.Decide.{decLt}
+use lib.Dec.{leb}
+use lib.ListN.{length}
+use lib.Ieee.{Float}
+use borrow.Author.Tests.{le-leb, not-false}
+use Rattle.seq.specs.Choice.{pick}
+use Rattle.seq.specs.Keep.{count}
+use Rattle.stages.specs.Stages.{stageOf}
+use Rattle.stages.specs.Stopping.{entriesAt, rests, breaks, exceeds, stops, firstStop, stopOf}
+use Rattle.rules.specs.Rules.{ruleFault}
+use Rattle.rules.specs.declared.Rule.{Rule}
+use Rattle.rules.specs.declared.Rule.the-variants.{Target, Within}
+use Rattle.rules.proofs.Choosing.{neither, first-holds, never}
+
+pub count-short : (f : ℕ → Bool) (k : ℕ) → count f k ≤ k
+unfolding count
+count-short f zero = omega arith
+count-short f (suc k) = go (f k) (count-short f k)
+  where
+    go : (t : Bool) → count f k ≤ k → pick t (suc (count f k)) (count f k) ≤ suc k
+    go true h = omega arith
+    go false h = omega arith
+
+-- a target that is not refused is at least 1
+pub target-some : (t : ℕ) → ruleFault (Target t) ≡ 0 → 1 ≤ t
+target-some zero h = absurd (omega arith)
+target-some (suc t) h = omega arith
+
+-- the search, over the sequence of stages of one matrix, weights and seed
+module _ (z : Float) (u : ℕ → ℕ → Float) (n : ℕ) (start : List Float) (seed : ℕ) where
+  -- a stage of one nonzero at most is returned, whatever the rule
+  pub few-rests : (rule : Rule) (i : ℕ) → ruleFault rule ≡ 0 → entriesAt z u n start seed i ≤ 1 → rests z u n start seed rule i ≡ true
+  few-rests (Target t) i f h = le-leb (entriesAt z u n start seed i) t (omega (arith, target-some t f))
+  few-rests (Within allowance cap) i f h = first-holds (leb (entriesAt z u n start seed i) 1) _ (le-leb (entriesAt z u n start seed i) 1 h)
+
+  -- where the job goes on, the stage has two nonzeros or more, and the next is sound
+  pub record Goes (i : ℕ) : Type 0 where
+    pub some : 2 ≤ entriesAt z u n start seed i
+    pub good : stageOf z u n start seed (suc i) .good ≡ true
+
+  pub goes : (rule : Rule) (i : ℕ) → ruleFault rule ≡ 0 → stops z u n start seed rule i ≡ false → Goes i
+  goes rule i f h =
+      let a = neither (rests z u n start seed rule i) (breaks z u n start seed i || exceeds z u n start seed rule i) h in
+      let b = neither (breaks z u n start seed i) (exceeds z u n start seed rule i) (a .1) in
+      record { some = go (decLt 1 (entriesAt z u n start seed i)) (a .0); good = not-false (stageOf z u n start seed (suc i) .good) (b .0) }
+    where
+      go : Dec (1 < entriesAt z u n start seed i) → rests z u n start seed rule i ≡ false → 2 ≤ entriesAt z u n start seed i
+      go (yes g) e = omega arith
+      go (no g) e = never (rests z u n start seed rule i) (few-rests rule i f (omega arith)) e
+
+  -- stage k stops, and none before it
+  pub record FirstStop (rule : Rule) (k : ℕ) : Type 0 where
+    pub there : stops z u n start seed rule k ≡ true
+    pub before : (i : ℕ) → i < k → stops z u n start seed rule i ≡ false
+
+  pub only : {rule : Rule} {k l : ℕ} → FirstStop rule k → FirstStop rule l → k ≡ l
+  only {rule} {k} {l} p q = go (decLt k l) (decLt l k)
+    where
+      go : Dec (k < l) → Dec (l < k) → k ≡ l
+      go (yes h) x = never (stops z u n start seed rule k) (p .there) (q .before k h)
+      go (no g) (yes h) = never (stops z u n start seed rule l) (q .there) (p .before l h)
+      go (no g) (no h) = omega arith
+
+  -- each sound pass on two nonzeros or more leaves fewer
+  abbrev pub Falls : Type 0
+  Falls = (i : ℕ) → stageOf z u n start seed (suc i) .good ≡ true → 2 ≤ entriesAt z u n start seed i → entriesAt z u n start seed (suc i) < entriesAt z u n start seed i
+
+  pub below-more : (rule : Rule) (i : ℕ) → ((j : ℕ) → j < i → stops z u n start seed rule j ≡ false) → stops z u n start seed rule i ≡ false
+      → (j : ℕ) → j < suc i → stops z u n start seed rule j ≡ false
+  below-more rule i h g j l = go (decLt j i)
+    where
+      go : Dec (j < i) → stops z u n start seed rule j ≡ false
+      go (yes k) = h j k
+      go (no k) = let e : j ≡ i = omega arith in rw e g
+
+  module _ (falls : Falls) (rule : Rule) (accepted : ruleFault rule ≡ 0) where
+    -- fuel for every nonzero entry is enough
+    pub finds : (fuel i : ℕ) → entriesAt z u n start seed i ≤ fuel → ((j : ℕ) → j < i → stops z u n start seed rule j ≡ false) → FirstStop rule (firstStop z u n start seed rule fuel i)
+    unfolding firstStop
+    finds zero i h g = record { there = first-holds (rests z u n start seed rule i) _ (few-rests rule i accepted (omega arith)); before = g }
+    finds (suc fuel) i h g = go (stops z u n start seed rule i) refl (finds fuel (suc i))
+      where
+        go : (t : Bool) → stops z u n start seed rule i ≡ t
+            → (entriesAt z u n start seed (suc i) ≤ fuel → ((j : ℕ) → j < suc i → stops z u n start seed rule j ≡ false) → FirstStop rule (firstStop z u n start seed rule fuel (suc i)))
+            → FirstStop rule (pick t i (firstStop z u n start seed rule fuel (suc i)))
+        go true e r = record { there = e; before = g }
+        go false e r =
+            let p = goes rule i accepted e in
+            r (omega (arith, falls i (p .good) (p .some))) (below-more rule i g e)
+
+    pub entries-short : entriesAt z u n start seed 0 ≤ length start
+    unfolding stageOf
+    entries-short = count-short _ (length start)
+
+    -- the stage of the definition is the first that stops
+    pub stop-is-first : FirstStop rule (stopOf z u n start seed rule)
+    stop-is-first = finds (length start) 0 entries-short (λ j l. absurd (omega arith))
+
+    -- more fuel changes nothing
+    pub fuel-enough : (more : ℕ) → firstStop z u n start seed rule (length start + more) 0 ≡ stopOf z u n start seed rule
+    fuel-enough more = only (finds (length start + more) 0 (omega (arith, entries-short)) (λ j l. absurd (omega arith))) stop-is-first
+
+    -- every stage up to the one that is returned is sound
+    pub sound-to : (i : ℕ) → i ≤ stopOf z u n start seed rule → stageOf z u n start seed i .good ≡ true
+    sound-to zero l = unfold stageOf in refl
+    sound-to (suc i) l = goes rule i accepted (stop-is-first .before i (omega arith)) .good

@@ -1,0 +1,48 @@
+-- Every stage is as long as the weights that it starts from.
+use Prim.Native.Nat.{ℕ, zero, suc}
+use mathlib.Core.Path.{_≡_, refl, _∙_}
+use mathlib.Core.Bool.{Bool, true, false}
+use mathlib.Core.List.{List}
+use lib.Dec.{eqb}
+use lib.ListN.{length, getD, length-set}
+use lib.Ieee.{Float}
+use Rattle.seq.specs.Choice.{pick}
+use Rattle.seq.proofs.Filling.{length-tab}
+use Rattle.coloring.specs.Coloring.{Colored, coloringOf}
+use Rattle.halving.specs.Weights.{normalized}
+use Rattle.halving.specs.Ranking.{restOf, omegaOf}
+use Rattle.halving.specs.Halving.{Halved, remaining, scaledColumns, sigmaOf, halvedTo, halvedOnce, halvedTwice, passOf}
+use Rattle.stages.specs.Stages.{stageOf}
+
+pub length-normalized : (z : Float) (w : List Float) → length (normalized z w) ≡ length w
+unfolding normalized
+length-normalized z w = length-tab _ (length w)
+
+length-halved : (w : List Float) (rest : List ℕ) (x : List Float) (sigma : Float) (k : ℕ) → length (halvedTo w rest x sigma k) ≡ length w
+unfolding halvedTo
+length-halved w rest x sigma zero = refl
+length-halved w rest x sigma (suc k) = length-set (halvedTo w rest x sigma k) (getD rest k 0) _ ∙ length-halved w rest x sigma k
+
+length-once : (z : Float) (u : ℕ → ℕ → Float) (n : ℕ) (omega : Float) (rest : List ℕ) (h : Halved) → length (halvedOnce z u n omega rest h .w) ≡ length (h .w)
+unfolding halvedOnce
+length-once z u n omega rest h =
+    let r : List ℕ = remaining (h .w) rest in
+    let c : Colored = coloringOf z (scaledColumns u n (h .w) omega r) (length r) (suc n) (h .rng) in
+    go (eqb (length r) 0) (record { w = halvedTo (h .w) r (c .x) (sigmaOf (c .x)) (length r); rng = c .rng }) (length-halved (h .w) r (c .x) (sigmaOf (c .x)) (length r))
+  where
+    go : (t : Bool) (k : Halved) → length (k .w) ≡ length (h .w) → length (pick t h k .w) ≡ length (h .w)
+    go true k e = refl
+    go false k e = e
+
+pub length-pass : (z : Float) (u : ℕ → ℕ → Float) (n : ℕ) (h : Halved) → length (passOf z u n h .w) ≡ length (h .w)
+unfolding passOf halvedTwice
+length-pass z u n h =
+    length-normalized z (halvedOnce z u n (omegaOf (h .w)) (restOf (h .w)) (halvedOnce z u n (omegaOf (h .w)) (restOf (h .w)) h) .w)
+    ∙ length-once z u n (omegaOf (h .w)) (restOf (h .w)) (halvedOnce z u n (omegaOf (h .w)) (restOf (h .w)) h)
+    ∙ length-once z u n (omegaOf (h .w)) (restOf (h .w)) h
+
+pub length-stage : (z : Float) (u : ℕ → ℕ → Float) (n : ℕ) (start : List Float) (seed i : ℕ) → length (stageOf z u n start seed i .w) ≡ length start
+unfolding stageOf
+length-stage z u n start seed zero = refl
+length-stage z u n start seed (suc i) =
+    length-pass z u n (record { w = stageOf z u n start seed i .w; rng = stageOf z u n start seed i .rng }) ∙ length-stage z u n start seed i

@@ -1,0 +1,5 @@
+-- The laws of the stages.
+pub mod Halting
+pub mod Lengths
+pub mod Following
+pub mod Passing

@@ -1,0 +1,68 @@
+-- `stages::follow` meets its contract: the rule's case says which loop follows the stages.
+use Rattle.stages.proofs.Halting.{target-some}
+use borrow.Author.Needs.{needs}
+use Rattle.stages.proofs.follow.Statement.{statement}
+use Rattle.stages.proofs.follow.Tie as tie
+
+enum-known-rule : tie.Need-enum-known-rule
+enum-known-rule c = search needs
+
+to-target-requires : tie.Need-to-target-requires
+to-target-requires c κs =
+    let c4 = c .before .before .before .before in
+    let c12 = c4 .before .before .before .before .before .before .before .before in
+    (c12 .pre .0, target-some _ (rw (c4 .rule .given .1) at (c12 .pre .3)))
+
+enum-known-rule-2 : tie.Need-enum-known-rule-2
+enum-known-rule-2 c = search needs
+
+to-allowance-requires : tie.Need-to-allowance-requires
+to-allowance-requires c κs =
+    let c5 = c .before .before .before .before .before in
+    let c13 = c5 .before .before .before .before .before .before .before .before in
+    (c13 .pre .0, c13 .pre .1, c13 .pre .2, rw (c5 .rule2 .given .1) at (c13 .pre .3))
+
+same-length : tie.Need-same-length
+same-length c = search needs
+
+same-length-2 : tie.Need-same-length-2
+same-length-2 c = search needs
+
+same-length-3 : tie.Need-same-length-3
+same-length-3 c = search needs
+
+returns : tie.Need-returns
+returns c = rw (c .before .before .before .before .before .before .before .before .before .before .before .rule .given .1) (c .before .before .before .before .before .before .to-target .ensures)
+
+same-length-4 : tie.Need-same-length-4
+same-length-4 c = search needs
+
+same-length-5 : tie.Need-same-length-5
+same-length-5 c = search needs
+
+same-length-6 : tie.Need-same-length-6
+same-length-6 c = search needs
+
+same-length-7 : tie.Need-same-length-7
+same-length-7 c = search needs
+
+returns-2 : tie.Need-returns-2
+returns-2 c = rw (c .before .before .before .before .before .before .before .before .before .before .before .before .before .before .rule2 .given .1) (c .before .before .before .before .before .before .before .before .to-allowance .ensures)
+
+pub follow-spec : {M : Type 1} → statement M
+follow-spec =
+    tie.close
+    (tie.spec
+    enum-known-rule
+    to-target-requires
+    enum-known-rule-2
+    to-allowance-requires
+    same-length
+    same-length-2
+    same-length-3
+    returns
+    same-length-4
+    same-length-5
+    same-length-6
+    same-length-7
+    returns-2)

@@ -1,0 +1,133 @@
+// How a job follows the stages to the one at which it stops.
+use draw::SplitMix64;
+use halving::count_nonzeros;
+use halving::halving_pass;
+use rules::Cap;
+use rules::Rule;
+use trial::try_pass;
+ghost use mathlib.Core.Path.{_≡_};
+ghost use Prim.Native.Nat.{_<_};
+ghost use lib.ListN.{length};
+ghost use Rattle.limits.specs.Matrix.{columnsOf};
+ghost use Rattle.halving.specs.Halves.{Ready};
+ghost use Rattle.stages.specs.Paths.{Followed};
+ghost use Rattle.rules.specs.Rules.{ruleFault};
+ghost use Rattle.rules.specs.declared.Rule.the-variants.{Target, Within};
+
+// The stage that a job has reached, and whether every sum on the way was above 0 and finite.
+pub struct Reached {
+    pub stage: usize,
+    pub good: bool,
+}
+
+// Passes until at most so many entries are not 0. w starts as the normalized weights.
+fn to_target(
+    matrix: &[f64],
+    n: usize,
+    w: &mut [f64],
+    numbers: &mut [f64],
+    indices: &mut [u32],
+    seed: u64,
+    target: usize,
+) -> Reached
+    requires { ⌜ Ready (now matrix) n (now w) (now numbers) (now indices) × (0 < target) ⌝ }
+    ensures { λ r. ⌜ Followed (columnsOf (now (matrix .entry)) n) n (now (w .entry)) seed (Target target) r (now (w .exit)) ⌝ }
+{
+    let mut rng = SplitMix64::new(seed);
+    let mut stage = 0usize;
+    while count_nonzeros(&w[..]) > target {
+        let h = halving_pass(
+            matrix,
+            n,
+            &mut w[..],
+            &mut numbers[..],
+            &mut indices[..],
+            rng,
+        );
+        if !h.good {
+            return Reached { stage, good: false };
+        }
+        let next = h.rng;
+        rng = next;
+        stage += 1;
+    }
+    Reached { stage, good: true }
+}
+
+// Passes until one measures above the allowance and the cap is met. w starts as the normalized weights.
+fn to_allowance(
+    matrix: &[f64],
+    n: usize,
+    start: &[f64],
+    w: &mut [f64],
+    next: &mut [f64],
+    numbers: &mut [f64],
+    indices: &mut [u32],
+    seed: u64,
+    allowance: f64,
+    cap: Cap,
+) -> Reached
+    requires { ⌜ Ready (now matrix) n (now w) (now numbers) (now indices) × (now w ≡ now start) × (length (now next) ≡ length (now w)) × (ruleFault (Within allowance cap) ≡ 0) ⌝ }
+    ensures { λ r. ⌜ Followed (columnsOf (now (matrix .entry)) n) n (now (w .entry)) seed (Within allowance cap) r (now (w .exit)) ⌝ }
+{
+    let mut rng = SplitMix64::new(seed);
+    let mut stage = 0usize;
+    while count_nonzeros(&w[..]) > 1 {
+        let t = try_pass(
+            matrix,
+            n,
+            start,
+            &mut w[..],
+            &mut next[..],
+            &mut numbers[..],
+            &mut indices[..],
+            rng,
+            allowance,
+            cap,
+        );
+        if !t.good {
+            return Reached { stage, good: false };
+        }
+        if t.taken {
+            stage += 1;
+        }
+        if !t.more {
+            break;
+        }
+        let r = t.rng;
+        rng = r;
+    }
+    Reached { stage, good: true }
+}
+
+// Follows the stages to the one at which the rule stops. w and start are the normalized weights, next is room for another vector.
+pub fn follow(
+    matrix: &[f64],
+    n: usize,
+    start: &[f64],
+    w: &mut [f64],
+    next: &mut [f64],
+    numbers: &mut [f64],
+    indices: &mut [u32],
+    seed: u64,
+    rule: Rule,
+) -> Reached
+    requires { ⌜ Ready (now matrix) n (now w) (now numbers) (now indices) × (now w ≡ now start) × (length (now next) ≡ length (now w)) × (ruleFault rule ≡ 0) ⌝ }
+    ensures { λ r. ⌜ Followed (columnsOf (now (matrix .entry)) n) n (now (w .entry)) seed rule r (now (w .exit)) ⌝ }
+{
+    match rule {
+        Rule::Target(t) => to_target(matrix, n, w, numbers, indices, seed, t),
+        Rule::Within { allowance, cap } => to_allowance(
+            matrix,
+            n,
+            start,
+            w,
+            next,
+            numbers,
+            indices,
+            seed,
+            allowance,
+            cap,
+        ),
+    }
+}

@@ -1,0 +1,2 @@
+-- The laws of a try.
+pub mod Trying

@@ -1,0 +1,2 @@
+-- One more pass, tried.
+pub mod Trial

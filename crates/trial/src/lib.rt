@@ -1,0 +1,82 @@
+// One more pass, tried: its weights are taken unless they measure above the allowance and the cap is met already.
+use draw::SplitMix64;
+use halving::count_nonzeros;
+use halving::halving_pass;
+use margins::change_of;
+use rules::Cap;
+use rules::meets_cap;
+use seq::copy;
+ghost use mathlib.Core.Path.{_≡_};
+ghost use Prim.Native.Nat.{_≤_};
+ghost use mathlib.Core.Bool.{_&&_};
+ghost use lib.ListN.{length};
+ghost use Rattle.limits.specs.Matrix.{columnsOf};
+ghost use Rattle.halving.specs.Weights.{nonzeros};
+ghost use Rattle.halving.specs.Halves.{Ready};
+ghost use Rattle.rules.specs.Rules.{meets};
+ghost use Rattle.trial.specs.Trial.{TriedOnce};
+
+// Whether weights meet the cap, where the change is above the allowance.
+fn ends_there(above: bool, cap: Cap, w: &[f64]) -> bool
+    ensures { λ r. ⌜ r ≡ (above && meets cap (nonzeros (now (w .entry)))) ⌝ }
+{
+    if above {
+        meets_cap(cap, count_nonzeros(w))
+    } else {
+        false
+    }
+}
+
+// How a try of one more pass ended: whether its sum was sound, whether its weights were taken, and whether another is to be tried.
+pub struct Tried {
+    pub rng: SplitMix64,
+    pub good: bool,
+    pub taken: bool,
+    pub more: bool,
+}
+
+// Tries one more pass from w, and takes its weights unless it measures above the allowance and w meets the cap.
+pub fn try_pass(
+    matrix: &[f64],
+    n: usize,
+    start: &[f64],
+    w: &mut [f64],
+    next: &mut [f64],
+    numbers: &mut [f64],
+    indices: &mut [u32],
+    rng: SplitMix64,
+    allowance: f64,
+    cap: Cap,
+) -> Tried
+    requires { ⌜ Ready (now matrix) n (now w) (now numbers) (now indices) × (length (now start) ≡ length (now w)) × (length (now next) ≡ length (now w)) × (2 ≤ nonzeros (now w)) ⌝ }
+    ensures { λ r. ⌜ TriedOnce (columnsOf (now (matrix .entry)) n) n (now (start .entry)) allowance cap (now (w .entry)) (rng .state) r (now (w .exit)) ⌝ }
+{
+    copy(&mut next[..], &w[..]);
+    let h = halving_pass(matrix, n, &mut next[..], numbers, indices, rng);
+    let r = h.rng;
+    if !h.good {
+        return Tried {
+            rng: r,
+            good: false,
+            taken: false,
+            more: false,
+        };
+    }
+    let above = !(change_of(matrix, n, start, &next[..]) <= allowance);
+    if ends_there(above, cap, &w[..]) {
+        return Tried {
+            rng: r,
+            good: true,
+            taken: false,
+            more: false,
+        };
+    }
+    copy(&mut w[..], &next[..]);
+    let ends = ends_there(above, cap, &w[..]);
+    Tried {
+        rng: r,
+        good: true,
+        taken: true,
+        more: !ends,
+    }
+}
