@@ -11,7 +11,7 @@ use borrow.Author.Tests.{eq-eqb, ne-eqb}
 use Rattle.seq.specs.Sums.{plusZero, at}
 use Rattle.limits.specs.Limits.{tooLarge, scratchShort, bounded, allTo}
 use Rattle.direction.specs.Constants.{one}
-use Rattle.halving.specs.Weights.{l1Of}
+use Rattle.weights.specs.Weights.{l1Of}
 use Rattle.limits.proofs.Sizes.{small}
 use Rattle.rules.specs.Rules.{ruleFault}
 use Rattle.faults.specs.Faults.{sizeFault, valueFault, jobFault}

@@ -10,7 +10,7 @@ use Rattle.seq.specs.Choice.{pick, orElse}
 use Rattle.seq.specs.Sums.{plusZero, at}
 use Rattle.limits.specs.Limits.{tooLarge, scratchShort, bounded, allTo}
 use Rattle.direction.specs.Constants.{one}
-use Rattle.halving.specs.Weights.{l1Of, sound}
+use Rattle.weights.specs.Weights.{l1Of, sound}
 use Rattle.rules.specs.Rules.{ruleFault}
 use Rattle.rules.specs.declared.Rule.{Rule}
 

@@ -1,11 +1,11 @@
 // What a job is refused for before any work is done.
-use halving::l1;
 use ieee::is_finite;
 use limits::all_bounded;
 use limits::scratch_short;
 use limits::too_large;
 use rules::Rule;
 use rules::rule_fault;
+use weights::l1;
 ghost use mathlib.Core.Path.{_≡_};
 ghost use lib.ListN.{length};
 ghost use lib.Ieee.Scale.{finite};

@@ -14,10 +14,11 @@ use Rattle.seq.specs.Choice.{pick}
 use Rattle.seq.specs.Sums.{plusZero, at}
 use Rattle.direction.specs.Constants.{two}
 use Rattle.coloring.specs.Coloring.{Colored, coloringOf}
-use Rattle.halving.specs.Weights.{isOn}
-use Rattle.halving.specs.Halving.{Halved, halvedTo, halvedOnce, remaining, scaledColumns, sigmaOf}
-use Rattle.halving.proofs.Turns.{length-halved}
-use Rattle.halving.proofs.Once.{Distinct, Every, every-at, every-those, distinct-at, distinct-those}
+use Rattle.weights.specs.Weights.{isOn}
+use Rattle.halve.specs.Halve.{Halved, halvedOnce, scaledColumns}
+use Rattle.doubling.specs.Doubling.{halvedTo, remaining, sigmaOf}
+use Rattle.doubling.proofs.Turns.{length-halved}
+use Rattle.doubling.proofs.Once.{Distinct, Every, every-at, every-those, distinct-at, distinct-those}
 
 -- v is what the first k turns of a halving of w make of weight j
 pub data Fate (w : List Float) (r : List ℕ) (x : List Float) (sigma : Float) (k j : ℕ) (v : Float) : Type 0 where

@@ -26,11 +26,13 @@ use Rattle.ieee.proofs.Division.{over-itself}
 use Rattle.ieee.proofs.Normalised.{Normal}
 use Rattle.coloring.proofs.Colours.{Coloured, colours}
 use Rattle.direction.specs.Constants.{two}
-use Rattle.halving.specs.Weights.{isOn, nonzeros, sound}
-use Rattle.halving.specs.Ranking.{ranked, keptCount, restOf, omegaOf}
-use Rattle.halving.specs.Halving.{Halved, remaining, sigmaOf, passOf}
+use Rattle.weights.specs.Weights.{isOn, nonzeros, sound}
+use Rattle.ranking.specs.Ranking.{ranked, keptCount, restOf, omegaOf}
+use Rattle.halve.specs.Halve.{Halved}
+use Rattle.doubling.specs.Doubling.{remaining, sigmaOf}
+use Rattle.halving.specs.Halving.{passOf}
 use Rattle.halving.specs.Alone.{Largest, Alone}
-use Rattle.halving.proofs.Once.{distinct-at}
+use Rattle.doubling.proofs.Once.{distinct-at}
 use Rattle.halving.proofs.Rest.{length-ranked, ranked-on, length-rest, rest-on, rest-distinct}
 use Rattle.halving.proofs.Fates.{Among, Fate, untouched, touched, coloursOf, fate-once}
 use Rattle.halving.proofs.Minority.{lone}

@@ -25,10 +25,12 @@ use Rattle.ieee.proofs.Tests.{tests-of-positive}
 use Rattle.ieee.proofs.Pass.{Step, step-sum, step-normal, pass-signs}
 use Rattle.direction.specs.Constants.{two}
 use Rattle.coloring.proofs.Colours.{colours}
-use Rattle.halving.specs.Weights.{isOn, nonzeros, l1Of, sound, overAt, normalized}
-use Rattle.halving.specs.Ranking.{ranked, restOf, omegaOf}
-use Rattle.halving.specs.Halving.{Halved, remaining, sigmaOf, halvedOnce, halvedTwice, passOf}
-use Rattle.halving.proofs.Once.{those-all, distinct-at, distinct-those}
+use Rattle.weights.specs.Weights.{isOn, nonzeros, l1Of, sound, overAt, normalized}
+use Rattle.ranking.specs.Ranking.{ranked, restOf, omegaOf}
+use Rattle.halve.specs.Halve.{Halved, halvedOnce}
+use Rattle.doubling.specs.Doubling.{remaining, sigmaOf}
+use Rattle.halving.specs.Halving.{halvedTwice, passOf}
+use Rattle.doubling.proofs.Once.{those-all, distinct-at, distinct-those}
 use Rattle.halving.proofs.Rest.{On, length-ranked, ranked-on, rest-some, rest-on, rest-distinct, first-kept}
 use Rattle.halving.proofs.Fates.{Among, Fate, untouched, touched, Moved, stays, doubled, zeroed, coloursOf, length-once, fate-once, moved-once}
 use Rattle.halving.proofs.Minority.{Fails, minority}

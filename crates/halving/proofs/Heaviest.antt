@@ -13,10 +13,10 @@ use Rattle.seq.specs.Choice.{pick}
 use Rattle.seq.specs.Sums.{at}
 use Rattle.seq.specs.Sort.{putIn, sorted}
 use Rattle.ieee.proofs.ByMagnitude.{height, above-is}
-use Rattle.halving.specs.Weights.{isOn, nonzeros}
-use Rattle.halving.specs.Ranking.{support, heavier, ranked}
+use Rattle.weights.specs.Weights.{isOn, nonzeros}
+use Rattle.ranking.specs.Ranking.{support, heavier, ranked}
 use Rattle.halving.specs.Alone.{Largest}
-use Rattle.halving.proofs.Once.{Every, none, both, Fresh, every-at, every-put, every-map, every-sorted}
+use Rattle.doubling.proofs.Once.{Every, none, both, Fresh, every-at, every-put, every-map, every-sorted}
 use Rattle.halving.proofs.Rest.{length-ranked, ranked-on, support-once}
 use Rattle.halving.proofs.Fates.{Among}
 use Rattle.halving.proofs.Holding.{has-among, has-keep, has-sorted}

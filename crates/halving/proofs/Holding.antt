@@ -9,8 +9,8 @@ use lib.ListN.{length, getD, length-append}
 use Rattle.seq.specs.Choice.{pick}
 use Rattle.seq.specs.Keep.{keep, count}
 use Rattle.seq.specs.Sort.{putIn, sorted}
-use Rattle.halving.specs.Halving.{thoseTo}
-use Rattle.halving.proofs.Once.{Every, none, both, Fresh, Distinct, empty, joined}
+use Rattle.doubling.specs.Doubling.{thoseTo}
+use Rattle.doubling.proofs.Once.{Every, none, both, Fresh, Distinct, empty, joined}
 use Rattle.halving.proofs.Fates.{Among}
 
 -- j is one of them

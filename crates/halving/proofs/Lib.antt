@@ -1,7 +1,4 @@
 -- The laws of a pass.
-pub mod Turns
-pub mod Ordering
-pub mod Once
 pub mod Rest
 pub mod Fates
 pub mod Minority
@@ -11,6 +8,5 @@ pub mod Holding
 pub mod Heaviest
 pub mod Quarter
 pub mod Few
-pub mod Columns
 pub mod Calls
 pub mod Starts

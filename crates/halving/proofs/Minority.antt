@@ -18,7 +18,7 @@ use Rattle.ieee.proofs.Counting.{count-le}
 use Rattle.places.proofs.Places.{count-all}
 use Rattle.coloring.proofs.Marked.{Colour}
 use Rattle.coloring.proofs.Colours.{Coloured}
-use Rattle.halving.specs.Halving.{sigmaOf}
+use Rattle.doubling.specs.Doubling.{sigmaOf}
 
 -- a place below k at which a test fails
 pub record Fails (f : ℕ → Bool) (k : ℕ) : Type 0 where

@@ -16,10 +16,12 @@ use Rattle.seq.proofs.Keeping.{keep-good, length-keep}
 use Rattle.ieee.proofs.Counting.{count-le}
 use Rattle.coloring.proofs.Colours.{Coloured, colours}
 use Rattle.direction.specs.Constants.{two}
-use Rattle.halving.specs.Weights.{isOn, nonzeros}
-use Rattle.halving.specs.Ranking.{ranked, keptCount, restOf, omegaOf}
-use Rattle.halving.specs.Halving.{Halved, thoseTo, remaining, sigmaOf, halvedOnce, passOf}
-use Rattle.halving.proofs.Once.{Every, Distinct, every-of, every-map, every-those, distinct-at, distinct-those, distinct-keep}
+use Rattle.weights.specs.Weights.{isOn, nonzeros}
+use Rattle.ranking.specs.Ranking.{ranked, keptCount, restOf, omegaOf}
+use Rattle.halve.specs.Halve.{Halved, halvedOnce}
+use Rattle.doubling.specs.Doubling.{thoseTo, remaining, sigmaOf}
+use Rattle.halving.specs.Halving.{passOf}
+use Rattle.doubling.proofs.Once.{Every, Distinct, every-of, every-map, every-those, distinct-at, distinct-those, distinct-keep}
 use Rattle.halving.proofs.Rest.{length-ranked, length-rest, rest-on, rest-distinct}
 use Rattle.halving.proofs.Fates.{Among, Fate, untouched, touched, coloursOf, fate-once, moved-once}
 use Rattle.halving.proofs.Minority.{at-most-half}

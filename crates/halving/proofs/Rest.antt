@@ -9,9 +9,9 @@ use lib.Seq.{getD-drop}
 use lib.Ieee.{Float}
 use Rattle.seq.proofs.Keeping.{keep-good, length-keep}
 use Rattle.seq.proofs.Sorting.{length-sorted}
-use Rattle.halving.specs.Weights.{isOn, nonzeros}
-use Rattle.halving.specs.Ranking.{support, heavier, ranked, keptCount, restOf}
-use Rattle.halving.proofs.Once.{Every, Distinct, every-at, every-sorted, every-drop, distinct-at, distinct-sorted, distinct-keep, distinct-drop}
+use Rattle.weights.specs.Weights.{isOn, nonzeros}
+use Rattle.ranking.specs.Ranking.{support, heavier, ranked, keptCount, restOf}
+use Rattle.doubling.proofs.Once.{Every, Distinct, every-at, every-sorted, every-drop, distinct-at, distinct-sorted, distinct-keep, distinct-drop}
 
 -- an index of a weight that is not 0
 pub record On (w : List Float) (j : ℕ) : Type 0 where

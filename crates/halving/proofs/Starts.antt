@@ -16,9 +16,11 @@ use Rattle.ieee.specs.Magnitude.{absOf}
 use Rattle.ieee.proofs.Signs.{nought-is}
 use Rattle.coloring.specs.Coloring.{Colored}
 use Rattle.coloring.proofs.Starts.{starts-alike}
-use Rattle.halving.specs.Weights.{l1Of, sound, overAt, normalized}
-use Rattle.halving.specs.Ranking.{restOf, omegaOf}
-use Rattle.halving.specs.Halving.{remaining, scaledColumns, sigmaOf, halvedTo, Halved, halvedOnce, halvedTwice, passOf}
+use Rattle.weights.specs.Weights.{l1Of, sound, overAt, normalized}
+use Rattle.ranking.specs.Ranking.{restOf, omegaOf}
+use Rattle.doubling.specs.Doubling.{remaining, sigmaOf, halvedTo}
+use Rattle.halve.specs.Halve.{scaledColumns, Halved, halvedOnce}
+use Rattle.halving.specs.Halving.{halvedTwice, passOf}
 
 -- ---- the sum of magnitudes
 

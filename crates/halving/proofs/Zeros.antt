@@ -16,7 +16,7 @@ use Rattle.ieee.proofs.Flat.{round-zero}
 use Rattle.ieee.proofs.Ops.{unlike-false}
 use Rattle.ieee.proofs.Signs.{nought, nought-is}
 use Rattle.ieee.proofs.Zeros.{nonzero-not-zero}
-use Rattle.halving.specs.Weights.{sound}
+use Rattle.weights.specs.Weights.{sound}
 
 -- 0 is not above 0
 not-above : (t : Bool) (a b : ℕ) → a ≡ 0 → b ≡ 0 → below false a t b ≡ false

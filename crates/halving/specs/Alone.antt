@@ -7,8 +7,8 @@ use lib.ListN.{length}
 use lib.Ieee.{Float}
 use Rattle.seq.specs.Sums.{plusZero, at}
 use Rattle.ieee.specs.Magnitude.{signumOf}
-use Rattle.halving.specs.Weights.{isOn}
-use Rattle.halving.specs.Ranking.{heavier}
+use Rattle.weights.specs.Weights.{isOn}
+use Rattle.ranking.specs.Ranking.{heavier}
 
 -- weight k is not 0, and comes before every other that is not: the largest by magnitude, of equal ones the first
 pub record Largest (w : List Float) (k : ℕ) : Type 0 where

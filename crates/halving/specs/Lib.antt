@@ -1,6 +1,4 @@
--- One pass of the thinning: weights, their order, and the halving.
-pub mod Weights
-pub mod Ranking
+-- One pass of the thinning, and what it leaves of few weights.
 pub mod Halving
 pub mod Halves
 pub mod Alone

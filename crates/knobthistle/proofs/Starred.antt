@@ -19,8 +19,8 @@ use Rattle.linear.specs.Vectors.{maxAbsTo}
 use Rattle.limits.specs.Limits.{numbersNeeded, indicesNeeded, allTo}
 use Rattle.limits.specs.Matrix.{columnsOf}
 use Rattle.margins.specs.Margins.{changeTo, maxChange}
-use Rattle.halving.specs.Weights.{nonzeros, isOn, l1Of, normalized}
-use Rattle.halving.specs.Ranking.{heavier}
+use Rattle.weights.specs.Weights.{nonzeros, isOn, l1Of, normalized}
+use Rattle.ranking.specs.Ranking.{heavier}
 use Rattle.halving.specs.Alone.{Largest, Alone}
 use Rattle.stages.specs.Stages.{stageOf}
 use Rattle.stages.specs.Stopping.{rests, stops}

@@ -17,7 +17,7 @@ use Rattle.seq.specs.Sums.{plusZero}
 use Rattle.seq.proofs.Filling.{length-tab}
 use Rattle.fields.proofs.Widths.{length-count, width-most}
 use Rattle.limits.specs.Matrix.{columnsOf}
-use Rattle.halving.specs.Weights.{normalized}
+use Rattle.weights.specs.Weights.{normalized}
 use Rattle.sparsification.specs.declared.Answer.{Answer}
 use Rattle.rules.specs.declared.Rule.{Rule}
 use Rattle.sparsification.specs.Answers.{returned, stopFor}

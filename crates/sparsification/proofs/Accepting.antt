@@ -14,7 +14,7 @@ use Rattle.seq.specs.Choice.{pick, orElse}
 use Rattle.seq.specs.Sums.{plusZero, at}
 use Rattle.limits.specs.Limits.{tooLarge, scratchShort, numbersNeeded, indicesNeeded, bounded, allTo}
 use Rattle.direction.specs.Constants.{one}
-use Rattle.halving.specs.Weights.{nonzeros, normalized, l1Of, sound}
+use Rattle.weights.specs.Weights.{nonzeros, normalized, l1Of, sound}
 use Rattle.limits.specs.Matrix.{columnsOf}
 use Rattle.stages.specs.Stages.{movedBy}
 use Rattle.sparsification.specs.Answers.{refusal, answerOf, lateFor, stopFor, returned, Thinned}

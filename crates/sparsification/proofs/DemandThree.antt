@@ -14,9 +14,9 @@ use lib.Ieee.Scale.{finite}
 use Rattle.seq.specs.Sums.{plusZero, at}
 use Rattle.limits.specs.Matrix.{columnsOf}
 use Rattle.ieee.proofs.Normalised.{Normal}
-use Rattle.halving.specs.Weights.{nonzeros, normalized}
+use Rattle.weights.specs.Weights.{nonzeros, normalized}
 use Rattle.halving.specs.Halving.{passOf}
-use Rattle.halving.specs.Halves.{halvesOf}
+use Rattle.halve.specs.Handed.{halvesOf}
 use Rattle.halving.proofs.Fewer.{pass-good}
 use Rattle.stages.specs.Stages.{stageOf, movedBy}
 use Rattle.stages.specs.Stopping.{entriesAt, rests, breaks, stopOf, lateNumber}

@@ -14,8 +14,8 @@ use Rattle.seq.specs.Lists.{repeated}
 use Rattle.seq.specs.Sums.{plusZero}
 use Rattle.limits.specs.Matrix.{columnsOf}
 use Rattle.margins.specs.Margins.{maxChange}
-use Rattle.halving.specs.Weights.{nonzeros, l1Of, sound, normalized}
-use Rattle.halving.specs.Halves.{Ready}
+use Rattle.weights.specs.Weights.{nonzeros, l1Of, sound, normalized}
+use Rattle.halve.specs.Handed.{Ready}
 use Rattle.stages.specs.Stages.{stageOf}
 use Rattle.stages.specs.Stopping.{rests, breaks, stopOf, lateNumber}
 use Rattle.faults.specs.Faults.{jobFault}

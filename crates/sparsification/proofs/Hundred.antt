@@ -10,8 +10,8 @@ use lib.Ieee.{Float, binary64}
 use Rattle.seq.specs.Sums.{plusZero, at}
 use Rattle.limits.specs.Matrix.{columnsOf}
 use Rattle.ieee.proofs.Normalised.{Normal}
-use Rattle.halving.specs.Weights.{nonzeros, normalized}
-use Rattle.halving.specs.Halves.{halvesOf}
+use Rattle.weights.specs.Weights.{nonzeros, normalized}
+use Rattle.halve.specs.Handed.{halvesOf}
 use Rattle.halving.proofs.Fewer.{pass-good}
 use Rattle.halving.proofs.Quarter.{pass-at-most}
 use Rattle.stages.specs.Stages.{stageOf}

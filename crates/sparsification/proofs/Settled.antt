@@ -8,8 +8,8 @@ use lib.Ieee.{Float, binary64}
 use Rattle.seq.specs.Sums.{plusZero, at}
 use Rattle.limits.specs.Matrix.{columnsOf}
 use Rattle.ieee.proofs.Normalised.{Normal}
-use Rattle.halving.specs.Weights.{normalized}
-use Rattle.halving.specs.Halves.{halvesOf}
+use Rattle.weights.specs.Weights.{normalized}
+use Rattle.halve.specs.Handed.{halvesOf}
 use Rattle.halving.specs.Alone.{Largest, Alone}
 use Rattle.halving.proofs.Few.{largest-alone}
 use Rattle.halving.proofs.Fewer.{pass-good}

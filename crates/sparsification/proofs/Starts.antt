@@ -8,7 +8,7 @@ use lib.ListN.{length}
 use lib.Ieee.{Float, le}
 use Rattle.seq.specs.Choice.{pick}
 use Rattle.seq.specs.Sums.{plusZero, minusZero}
-use Rattle.halving.specs.Weights.{nonzeros, normalized}
+use Rattle.weights.specs.Weights.{nonzeros, normalized}
 use Rattle.halving.specs.Halving.{Passed}
 use Rattle.halving.proofs.Starts.{normalized-same, pass-same}
 use Rattle.stages.specs.Stages.{Stage, nextStage, stageOf, movedBy}

@@ -10,7 +10,7 @@ use Rattle.seq.specs.Lists.{repeated}
 use Rattle.seq.specs.Sums.{plusZero}
 use Rattle.limits.specs.Matrix.{columnsOf}
 use Rattle.margins.specs.Margins.{maxChange}
-use Rattle.halving.specs.Weights.{nonzeros, normalized}
+use Rattle.weights.specs.Weights.{nonzeros, normalized}
 use Rattle.stages.specs.Stages.{Stage, stageOf, movedBy}
 use Rattle.stages.specs.Stopping.{stopOf, lateNumber}
 use Rattle.faults.specs.Faults.{jobFault}

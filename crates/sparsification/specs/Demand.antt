@@ -8,7 +8,7 @@ use lib.Dec.{leb}
 use lib.Ieee.{Float, le}
 use Rattle.seq.specs.Sums.{plusZero}
 use Rattle.limits.specs.Matrix.{columnsOf}
-use Rattle.halving.specs.Weights.{normalized}
+use Rattle.weights.specs.Weights.{normalized}
 use Rattle.stages.specs.Stages.{stageOf}
 use Rattle.stages.specs.Among.{Among}
 use Rattle.sparsification.specs.declared.Answer.{Answer}

@@ -1,7 +1,5 @@
 // The thinning: sparsify, sparsify_within, and thin, which takes either's rule in a job.
 use faults::job_fault;
-use halving::count_nonzeros;
-use halving::normalize;
 use margins::change_of;
 use rules::Cap;
 use rules::Rule;
@@ -9,6 +7,8 @@ use seq::clear;
 use seq::clear_words;
 use seq::copy;
 use stages::follow;
+use weights::count_nonzeros;
+use weights::normalize;
 ghost use mathlib.Core.Path.{_≡_};
 ghost use lib.ListN.{length};
 ghost use Rattle.seq.specs.Sums.{plusZero};
@@ -17,8 +17,8 @@ ghost use Rattle.rules.specs.Rules.{ruleFault};
 ghost use Rattle.rules.specs.declared.Rule.the-variants.{Target, Within};
 ghost use Rattle.limits.specs.Matrix.{columnsOf};
 ghost use Rattle.margins.specs.Blocks.{Lent};
-ghost use Rattle.halving.specs.Weights.{l1Of, sound, normalized};
-ghost use Rattle.halving.specs.Halves.{Ready};
+ghost use Rattle.weights.specs.Weights.{l1Of, sound, normalized};
+ghost use Rattle.halve.specs.Handed.{Ready};
 ghost use mathlib.Core.Bool.{true};
 
 // A seed and a rule.

@@ -12,9 +12,10 @@ use borrow.Author.Tests.{le-leb, lt-leb, lt-ltb, ne-eqb, not-true, not-false}
 use Rattle.seq.specs.Choice.{pick}
 use Rattle.seq.specs.Sums.{plusZero}
 use Rattle.margins.specs.Margins.{maxChange}
-use Rattle.halving.specs.Weights.{isOn, nonzeros}
+use Rattle.weights.specs.Weights.{isOn, nonzeros}
 use Rattle.halving.specs.Halving.{Passed, passOf}
-use Rattle.halving.specs.Halves.{halvesOf, PassHolds}
+use Rattle.halve.specs.Handed.{halvesOf}
+use Rattle.halving.specs.Halves.{PassHolds}
 use Rattle.halving.specs.declared.Halves.{Halves}
 use Rattle.stages.specs.Stages.{stageOf}
 use Rattle.rules.specs.Rules.{meets, ruleFault}

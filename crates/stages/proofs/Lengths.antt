@@ -9,9 +9,11 @@ use lib.Ieee.{Float}
 use Rattle.seq.specs.Choice.{pick}
 use Rattle.seq.proofs.Filling.{length-tab}
 use Rattle.coloring.specs.Coloring.{Colored, coloringOf}
-use Rattle.halving.specs.Weights.{normalized}
-use Rattle.halving.specs.Ranking.{restOf, omegaOf}
-use Rattle.halving.specs.Halving.{Halved, remaining, scaledColumns, sigmaOf, halvedTo, halvedOnce, halvedTwice, passOf}
+use Rattle.weights.specs.Weights.{normalized}
+use Rattle.ranking.specs.Ranking.{restOf, omegaOf}
+use Rattle.halve.specs.Halve.{Halved, scaledColumns, halvedOnce}
+use Rattle.doubling.specs.Doubling.{remaining, sigmaOf, halvedTo}
+use Rattle.halving.specs.Halving.{halvedTwice, passOf}
 use Rattle.stages.specs.Stages.{stageOf}
 
 pub length-normalized : (z : Float) (w : List Float) → length (normalized z w) ≡ length w

@@ -17,9 +17,10 @@ use Rattle.ieee.proofs.Norms.{l1}
 use Rattle.ieee.proofs.Normalised.{Normal, normalised}
 use Rattle.ieee.proofs.Tests.{positive-of-tests}
 use Rattle.ieee.proofs.Zeros.{sum-fits}
-use Rattle.halving.specs.Weights.{isOn, l1Of, sound, overAt, normalized}
-use Rattle.halving.specs.Halving.{Halved, passOf}
-use Rattle.halving.specs.Halves.{halvesOf}
+use Rattle.weights.specs.Weights.{isOn, l1Of, sound, overAt, normalized}
+use Rattle.halve.specs.Halve.{Halved}
+use Rattle.halving.specs.Halving.{passOf}
+use Rattle.halve.specs.Handed.{halvesOf}
 use Rattle.halving.proofs.Fewer.{pass-fewer, pass-normal, pass-same-sign}
 use Rattle.stages.specs.Stages.{stageOf}
 use Rattle.stages.specs.Among.{Among}

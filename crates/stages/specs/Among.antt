@@ -6,7 +6,7 @@ use mathlib.Core.List.{List}
 use lib.ListN.{length}
 use lib.Ieee.{Float, lt}
 use Rattle.seq.specs.Sums.{plusZero, at}
-use Rattle.halving.specs.Weights.{isOn}
+use Rattle.weights.specs.Weights.{isOn}
 
 -- every entry that is not 0 after was not 0 before, and has the sign that it had
 pub record Among (before after : List Float) : Type 0 where

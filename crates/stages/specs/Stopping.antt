@@ -6,7 +6,7 @@ use lib.Dec.{leb, ltb}
 use lib.ListN.{length}
 use lib.Ieee.{Float, le}
 use Rattle.seq.specs.Choice.{pick}
-use Rattle.halving.specs.Weights.{nonzeros}
+use Rattle.weights.specs.Weights.{nonzeros}
 use Rattle.rules.specs.Rules.{meets}
 use Rattle.stages.specs.Stages.{stageOf, movedBy}
 use Rattle.rules.specs.declared.Rule.{Rule}

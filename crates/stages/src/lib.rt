@@ -1,15 +1,15 @@
 // How a job follows the stages to the one at which it stops.
 use draw::SplitMix64;
-use halving::count_nonzeros;
 use halving::halving_pass;
 use rules::Cap;
 use rules::Rule;
 use trial::try_pass;
+use weights::count_nonzeros;
 ghost use mathlib.Core.Path.{_≡_};
 ghost use Prim.Native.Nat.{_<_};
 ghost use lib.ListN.{length};
 ghost use Rattle.limits.specs.Matrix.{columnsOf};
-ghost use Rattle.halving.specs.Halves.{Ready};
+ghost use Rattle.halve.specs.Handed.{Ready};
 ghost use Rattle.stages.specs.Paths.{Followed};
 ghost use Rattle.rules.specs.Rules.{ruleFault};
 ghost use Rattle.rules.specs.declared.Rule.the-variants.{Target, Within};

@@ -8,9 +8,10 @@ use lib.Ieee.{Float, le}
 use Rattle.seq.specs.Sums.{plusZero}
 use Rattle.margins.specs.Margins.{maxChange}
 use Rattle.margins.specs.Blocks.{Lent}
-use Rattle.halving.specs.Weights.{nonzeros}
+use Rattle.weights.specs.Weights.{nonzeros}
 use Rattle.halving.specs.Halving.{Passed, passOf}
-use Rattle.halving.specs.Halves.{Ready, halvesOf, PassHolds}
+use Rattle.halve.specs.Handed.{Ready, halvesOf}
+use Rattle.halving.specs.Halves.{PassHolds}
 use Rattle.halving.specs.declared.Halves.{Halves}
 use Rattle.rules.specs.Rules.{meets}
 use Rattle.trial.specs.Trial.{TriedOnce, aboveAfter}

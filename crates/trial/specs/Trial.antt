@@ -8,7 +8,7 @@ use lib.Ieee.{Float, le}
 use Rattle.seq.specs.Choice.{pick}
 use Rattle.seq.specs.Sums.{plusZero}
 use Rattle.margins.specs.Margins.{maxChange}
-use Rattle.halving.specs.Weights.{nonzeros}
+use Rattle.weights.specs.Weights.{nonzeros}
 use Rattle.halving.specs.Halving.{passOf}
 use Rattle.rules.specs.Rules.{meets}
 use Rattle.rules.specs.declared.Cap.{Cap}

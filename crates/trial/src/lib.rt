@@ -1,18 +1,18 @@
 // One more pass, tried: its weights are taken unless they measure above the allowance and the cap is met already.
 use draw::SplitMix64;
-use halving::count_nonzeros;
 use halving::halving_pass;
 use margins::change_of;
 use rules::Cap;
 use rules::meets_cap;
 use seq::copy;
+use weights::count_nonzeros;
 ghost use mathlib.Core.Path.{_≡_};
 ghost use Prim.Native.Nat.{_≤_};
 ghost use mathlib.Core.Bool.{_&&_};
 ghost use lib.ListN.{length};
 ghost use Rattle.limits.specs.Matrix.{columnsOf};
-ghost use Rattle.halving.specs.Weights.{nonzeros};
-ghost use Rattle.halving.specs.Halves.{Ready};
+ghost use Rattle.weights.specs.Weights.{nonzeros};
+ghost use Rattle.halve.specs.Handed.{Ready};
 ghost use Rattle.rules.specs.Rules.{meets};
 ghost use Rattle.trial.specs.Trial.{TriedOnce};
 

@@ -3,7 +3,8 @@ use borrow.Author.Needs.{needs}
 use mathlib.Core.Path.{refl}
 use native.Mathlib.Omega.{arith}
 use Rattle.limits.specs.Matrix.{columnsOf}
-use Rattle.halving.proofs.Calls.{ready-still, rest-below, rest-short, pass-holds}
+use Rattle.halve.proofs.Calls.{ready-still}
+use Rattle.halving.proofs.Calls.{rest-below, rest-short, pass-holds}
 use Rattle.halving.proofs.halve_twice.Statement.{statement}
 use Rattle.halving.proofs.halve_twice.Tie as tie
 

@@ -3,7 +3,7 @@ use borrow.Author.Tests.{not-true, not-false}
 use Rattle.seq.specs.Lists.{repeated}
 use Rattle.seq.specs.Sums.{plusZero}
 use Rattle.limits.specs.Matrix.{columnsOf}
-use Rattle.halving.proofs.Calls.{ready-still}
+use Rattle.halve.proofs.Calls.{ready-still}
 use Rattle.trial.proofs.Trying.{lent-of}
 use Rattle.sparsification.proofs.Finishing.{done-from, late-from}
 use borrow.Author.Needs.{needs}

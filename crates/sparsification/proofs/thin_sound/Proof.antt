@@ -1,7 +1,7 @@
 -- `sparsification::thin_sound` meets its contract: the copy of sound weights is normalized, and the local arrays have room for them.
 use lib.Seq.{length-take-le}
 use Rattle.seq.specs.Sums.{plusZero}
-use Rattle.halving.proofs.Calls.{ready-still}
+use Rattle.halve.proofs.Calls.{ready-still}
 use Rattle.stages.proofs.Lengths.{length-normalized}
 use Rattle.sparsification.proofs.Finishing.{normal-of}
 use borrow.Author.Needs.{needs}

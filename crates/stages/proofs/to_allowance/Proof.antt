@@ -2,11 +2,11 @@
 use borrow.Author.Tests.{not-true, not-false}
 use mathlib.Core.Bool.{false}
 use Rattle.limits.specs.Matrix.{columnsOf}
-use Rattle.halving.specs.Weights.{nonzeros}
+use Rattle.weights.specs.Weights.{nonzeros}
 use Rattle.rules.specs.declared.Rule.the-variants.{Within}
 use Rattle.rules.proofs.Choosing.{never}
 use Rattle.stages.proofs.Passing.{falling}
-use Rattle.halving.proofs.Calls.{ready-still}
+use Rattle.halve.proofs.Calls.{ready-still}
 use Rattle.stages.proofs.Following.{OnPath, closes, on-start, opens, allowance-met, allowance-broke, allowance-left, allowance-on, allowance-fewer, allowance-goes, allowance-last, more-taken}
 use borrow.Author.Needs.{needs}
 use mathlib.Core.Path.{_≡_, refl, sym, ap, _∙_}

@@ -1,10 +1,10 @@
 -- `stages::to_target` meets its contract: the loop stands on the path of the stages, none of which has stopped, and the nonzeros fall with each pass.
 use borrow.Author.Tests.{not-true, not-false}
 use Rattle.limits.specs.Matrix.{columnsOf}
-use Rattle.halving.specs.Weights.{nonzeros}
+use Rattle.weights.specs.Weights.{nonzeros}
 use Rattle.rules.specs.declared.Rule.the-variants.{Target}
 use Rattle.stages.proofs.Passing.{falling}
-use Rattle.halving.proofs.Calls.{ready-still}
+use Rattle.halve.proofs.Calls.{ready-still}
 use Rattle.stages.proofs.Following.{OnPath, on-start, target-met, target-broke, target-next, target-fewer}
 use borrow.Author.Needs.{needs}
 use mathlib.Core.Path.{_≡_, refl, _∙_}

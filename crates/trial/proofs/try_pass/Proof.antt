@@ -2,7 +2,7 @@
 use mathlib.Core.Bool.{not}
 use borrow.Author.Tests.{not-true, not-false}
 use Rattle.limits.specs.Matrix.{columnsOf}
-use Rattle.halving.proofs.Calls.{ready-still}
+use Rattle.halve.proofs.Calls.{ready-still}
 use Rattle.trial.proofs.Trying.{lent-of, broke-tried, left-tried, taken-tried}
 use borrow.Author.Needs.{needs}
 use mathlib.Core.Path.{refl, sym, ap, _∙_}

@@ -1,0 +1,2 @@
+-- What a halving does beside the colouring.
+pub mod Doubling

@@ -1,0 +1,71 @@
+-- The columns that a colouring is handed are those of the definition: read through the indices of the remaining rest and their scales, a matrix of n rows
+-- and the row under them have the same entries, so that the colours are the same.
+use borrow.Author.Tests.{lt-ltb, le-ltb, eq-eqb, ne-eqb}
+use Prim.Native.Nat.{ℕ, suc, _+_, _*_, _≤_, _<_}
+use mathlib.Core.Path.{_≡_, ap, _∙_}
+use mathlib.Core.List.{List}
+use native.Mathlib.Omega.{arith}
+use native.Mathlib.Decide.{decLt}
+use native.Mathlib.Numerals.{add-one}
+use lib.ListN.{length, getD}
+use lib.Ieee.{Float, nan}
+use Rattle.seq.specs.Lists.{tabulate}
+use Rattle.seq.specs.Sums.{plusZero, at}
+use Rattle.seq.proofs.Filling.{room, getD-tab}
+use Rattle.entries.specs.Entries.{entryOf}
+use Rattle.entries.proofs.Reading.{entry-own, entry-under}
+use Rattle.coloring.specs.Coloring.{coloringOf}
+use Rattle.coloring.proofs.SameColumns.{coloring-same}
+use Rattle.limits.specs.Matrix.{columnsOf}
+use Rattle.doubling.specs.Doubling.{remaining, scaleAt, sigmaOf, halvedTo}
+use Rattle.halve.specs.Halve.{scaledColumns, halvedOnce}
+use Rattle.halve.specs.Handed.{halvesOf, HalvedBy}
+
+module _ (u : List Float) (n : ℕ) (w : List Float) (ω : Float) (r : List ℕ) (whole : length u ≡ length w * n) (inside : (p : ℕ) → p < length r → getD r p 0 < length w) where
+  abbrev scales : List Float
+  scales = tabulate (scaleAt w ω r) (length r)
+
+  -- each column lies in the matrix
+  pub column-inside : (p : ℕ) → p < length r → getD r p 0 * n + n ≤ length u
+  column-inside p l = rw whole (room (getD r p 0) (length w) n (inside p l))
+
+  entry-same : (p i : ℕ) → p < length r → i < suc n → entryOf u n r scales p i ≡ scaledColumns (columnsOf u n) n w ω r p i
+  entry-same p i l g = go (decLt i n)
+    where
+      own : at scales p ≡ scaleAt w ω r p
+      own = getD-tab (scaleAt w ω r) (length r) p nan l
+
+      go : Dec (i < n) → entryOf u n r scales p i ≡ scaledColumns (columnsOf u n) n w ω r p i
+      go (yes h) = entry-own u n r scales p i (column-inside p l) h ∙ rw (lt-ltb i n h, own)
+      go (no h) =
+          let under : n ≤ i = omega arith in
+          entry-under u n r scales p i (column-inside p l) under ∙ rw (le-ltb i n under, own)
+
+  pub colours-same : (rng : ℕ) → coloringOf plusZero (entryOf u n r scales) (length r) (n + 1) rng ≡ coloringOf plusZero (scaledColumns (columnsOf u n) n w ω r) (length r) (suc n) rng
+  colours-same rng = rw (add-one n) (coloring-same (entryOf u n r scales) (scaledColumns (columnsOf u n) n w ω r) (length r) (suc n) entry-same plusZero rng)
+
+  -- the halving by these colours, from what each call ensures
+  pub halved-by : (rng : ℕ) (scale x : List Float) (rows : ℕ) (sigma : Float) (v : List Float) (s : ℕ)
+      → scale ≡ scales → rows ≡ n + 1 → x ≡ coloringOf plusZero (entryOf u n r scale) (length r) rows rng .x
+      → s ≡ coloringOf plusZero (entryOf u n r scale) (length r) rows rng .rng → sigma ≡ sigmaOf x → v ≡ halvedTo w r x sigma (length r)
+      → HalvedBy (coloringOf plusZero (scaledColumns (columnsOf u n) n w ω r) (length r) (suc n) rng) w r v s
+  halved-by rng scale x rows sigma v s es er ex eg ec ev =
+      let same : coloringOf plusZero (entryOf u n r scale) (length r) rows rng ≡ coloringOf plusZero (scaledColumns (columnsOf u n) n w ω r) (length r) (suc n) rng =
+      rw (es, er) (colours-same rng) in
+      record {
+        weights = ev ∙ ap (λ t. halvedTo w r x t (length r)) ec ∙ ap (λ y. halvedTo w r y (sigmaOf y) (length r)) (ex ∙ ap (λ c. c .x) same);
+        rng = eg ∙ ap (λ c. c .rng) same;
+      }
+
+-- ---- one halving
+
+module _ (u : ℕ → ℕ → Float) (n : ℕ) (w : List Float) (ω : Float) (rest : List ℕ) (rng : ℕ) where
+  pub halve-none : length (remaining w rest) ≡ 0 → halvesOf w rng ≡ halvedOnce plusZero u n ω rest (halvesOf w rng)
+  unfolding halvedOnce
+  halve-none e = rw (eq-eqb (length (remaining w rest)) 0 e)
+
+  pub halve-some : (length (remaining w rest) ≡ 0 → ⊥) → (v : List Float) (s : ℕ)
+      → HalvedBy (coloringOf plusZero (scaledColumns u n w ω (remaining w rest)) (length (remaining w rest)) (suc n) rng) w (remaining w rest) v s
+      → halvesOf v s ≡ halvedOnce plusZero u n ω rest (halvesOf w rng)
+  unfolding halvedOnce
+  halve-some e v s g = rw (ne-eqb (length (remaining w rest)) 0 e, g .weights, g .rng)

@@ -1,0 +1,3 @@
+-- The laws of one halving.
+mod Columns
+pub mod Calls

@@ -1,0 +1,98 @@
+-- `halve::halve` meets its contract: where none remain nothing changes, and else the remaining rest, at the front of a buffer, is halved.
+use borrow.Author.Needs.{needs}
+use mathlib.Core.Path.{sym, _∙_}
+use native.Mathlib.Omega.{arith}
+use lib.Seq.{length-take-le}
+use Rattle.limits.specs.Matrix.{columnsOf}
+use Rattle.halve.proofs.Columns.{halve-none, halve-some}
+use Rattle.halve.proofs.Calls.{lent}
+use Rattle.halve.proofs.halve.Statement.{statement}
+use Rattle.halve.proofs.halve.Tie as tie
+
+add-rows : tie.Need-add-rows
+add-rows c = search needs
+
+slice-aggregate-remaining-into : tie.Need-slice-aggregate-remaining-into
+slice-aggregate-remaining-into c = search needs
+
+remaining-into-requires : tie.Need-remaining-into-requires
+remaining-into-requires c κs = search needs
+
+same-length : tie.Need-same-length
+same-length c = search needs
+
+returns : tie.Need-returns
+returns c =
+    let a = c .before .before .before .before .before .before .before .before .before .before .args in
+    halve-none (columnsOf (a .matrix .now) (a .n)) (a .n) (a .w .now) (a .omega) (a .rest .now) (a .rng .state) (c .before .before .remaining-into .ensures .long ∙ c .if1 .taken)
+
+array-share-prefix-some : tie.Need-array-share-prefix-some
+array-share-prefix-some c = search needs
+
+slice-aggregate-halve-some : tie.Need-slice-aggregate-halve-some
+slice-aggregate-halve-some c = sym (length-take-le _ _ (c .before .before .before .before .remaining-into .ensures .within))
+
+array-borrow-prefix-scale : tie.Need-array-borrow-prefix-scale
+array-borrow-prefix-scale c = search needs
+
+slice-aggregate-halve-some-2 : tie.Need-slice-aggregate-halve-some-2
+slice-aggregate-halve-some-2 c = sym (length-take-le _ _ (omega arith))
+
+array-borrow-prefix-x : tie.Need-array-borrow-prefix-x
+array-borrow-prefix-x c = search needs
+
+slice-aggregate-halve-some-3 : tie.Need-slice-aggregate-halve-some-3
+slice-aggregate-halve-some-3 c = sym (length-take-le _ _ (omega arith))
+
+slice-relend-prefix-halve-some : tie.Need-slice-relend-prefix-halve-some
+slice-relend-prefix-halve-some c = search needs
+
+slice-aggregate-halve-some-4 : tie.Need-slice-aggregate-halve-some-4
+slice-aggregate-halve-some-4 c = sym (length-take-le _ _ (omega arith))
+
+halve-some-requires : tie.Need-halve-some-requires
+halve-some-requires c κs =
+    let v = c .before .before .before .before .before .before .before .before .before .before .before .before .before .before .before .before .pre in
+    lent (v .0) (v .1) (v .2) (c .before .before .before .before .before .before .before .before .remaining-into .ensures) (length-take-le _ _ (omega arith)) (length-take-le _ _ (omega arith)) (length-take-le _ _ (omega arith))
+
+same-length-2 : tie.Need-same-length-2
+same-length-2 c = search needs
+
+same-length-3 : tie.Need-same-length-3
+same-length-3 c = search needs
+
+same-length-4 : tie.Need-same-length-4
+same-length-4 c = search needs
+
+returns-2 : tie.Need-returns-2
+returns-2 c =
+    let c8 = c .before .before .before .before .before .before .before .before in
+    let c15 = c8 .before .before .before .before .before .before .before in
+    let c17 = c15 .before .before in
+    let c25 = c17 .before .before .before .before .before .before .before .before in
+    let a = c25 .args in
+    let p = c17 .remaining-into .ensures in
+    halve-some (columnsOf (a .matrix .now) (a .n)) (a .n) (a .w .now) (a .omega) (a .rest .now) (a .rng .state) (λ e. c15 .if1 .left (sym (p .long) ∙ e)) _ _ (rw (p .front) at (c8 .halve-some .ensures))
+
+pub halve-spec : {M : Type 1} → statement M
+halve-spec =
+    tie.close
+    (tie.spec
+    add-rows
+    slice-aggregate-remaining-into
+    remaining-into-requires
+    same-length
+    returns
+    array-share-prefix-some
+    slice-aggregate-halve-some
+    array-borrow-prefix-scale
+    slice-aggregate-halve-some-2
+    array-borrow-prefix-x
+    slice-aggregate-halve-some-3
+    slice-relend-prefix-halve-some
+    slice-aggregate-halve-some-4
+    halve-some-requires
+    same-length-2
+    same-length-3
+    same-length-4
+    returns-2)

@@ -1,0 +1,75 @@
+-- `halve::halve_some` meets its contract: the columns that the colouring reads are those of the definition.
+use borrow.Author.Needs.{needs}
+use mathlib.Core.Path.{_∙_}
+use native.Mathlib.Omega.{arith}
+use Rattle.halve.proofs.Columns.{column-inside, halved-by}
+use Rattle.halve.proofs.halve_some.Statement.{statement}
+use Rattle.halve.proofs.halve_some.Tie as tie
+
+scales-into-requires : tie.Need-scales-into-requires
+scales-into-requires c κs = search needs
+
+coloring-requires : tie.Need-coloring-requires
+coloring-requires c κs =
+    let a = c .before .before .before .before .before .before .before .before .before .before .before .before .before .before .before .before .args in
+    let v = c .before .before .before .before .before .before .before .before .before .before .before .before .before .before .before .before .pre in (
+      record {
+        low = omega arith;
+        high = omega arith;
+        short = omega arith;
+        few = v .few;
+        paired = c .before .before .before .before .before .before .scales-into .kept .0 ∙ v .scales;
+        inside = column-inside (a .matrix .now) (a .n) (a .w .now) (a .omega) (a .some .now) (v .whole) (v .inside .below);
+      },
+      v .colours,
+      omega (arith, v .floats, v .rows),
+    )
+
+sigma-of-requires : tie.Need-sigma-of-requires
+sigma-of-requires c κs = search needs
+
+double-or-zero-requires : tie.Need-double-or-zero-requires
+double-or-zero-requires c κs = search needs
+
+same-length : tie.Need-same-length
+same-length c = search needs
+
+same-length-2 : tie.Need-same-length-2
+same-length-2 c = search needs
+
+same-length-3 : tie.Need-same-length-3
+same-length-3 c = search needs
+
+same-length-4 : tie.Need-same-length-4
+same-length-4 c = search needs
+
+same-length-5 : tie.Need-same-length-5
+same-length-5 c = search needs
+
+returns : tie.Need-returns
+returns c =
+    let c2 = c .before .before in
+    let c5 = c2 .before .before .before in
+    let c13 = c5 .before .before .before .before .before .before .before .before in
+    let c20 = c13 .before .before .before .before .before .before .before in
+    let c30 = c20 .before .before .before .before .before .before .before .before .before .before in
+    let a = c30 .args in
+    let v = c30 .pre in
+    let d = c13 .coloring in
+    halved-by (a .matrix .now) (a .n) (a .w .now) (a .omega) (a .some .now) (v .whole) (v .inside .below) (a .rng .state) _ _ _ _
+    _ _ (c20 .scales-into .ensures) (v .rows) (d .ensures .0) (d .ensures .1) (c5 .sigma-of .ensures) (c2 .double-or-zero .ensures)
+
+pub halve-some-spec : {M : Type 1} → statement M
+halve-some-spec =
+    tie.close
+    (tie.spec
+    scales-into-requires
+    coloring-requires
+    sigma-of-requires
+    double-or-zero-requires
+    same-length
+    same-length-2
+    same-length-3
+    same-length-4
+    same-length-5
+    returns)

@@ -1,0 +1,28 @@
+-- One halving: the remaining rest coloured, and halved by the colours.
+-- A matrix is a function of the column and the row; it has n rows. z is what a sum starts from.
+use Prim.Native.Nat.{ℕ, suc}
+use mathlib.Core.List.{List}
+use lib.Dec.{ltb, eqb}
+use lib.ListN.{length, getD}
+use lib.Ieee.{Float, binary64, mul}
+use Rattle.seq.specs.Choice.{pick}
+use Rattle.ieee.specs.Magnitude.{absOf}
+use Rattle.coloring.specs.Coloring.{Colored, coloringOf}
+use Rattle.doubling.specs.Doubling.{remaining, scaleAt, sigmaOf, halvedTo}
+
+-- the columns of some indices, each scaled by its weight over ω, with the row of the scales' magnitudes under them
+abbrev pub scaledColumns : (ℕ → ℕ → Float) → ℕ → List Float → Float → List ℕ → ℕ → ℕ → Float
+scaledColumns u n w omega rest p i =
+    pick (ltb i n) (mul binary64 (u (getD rest p 0) i) (scaleAt w omega rest p)) (absOf (scaleAt w omega rest p))
+
+-- weights, and the generator that runs on
+pub record Halved : Type 0 where
+  pub w : List Float
+  pub rng : ℕ
+
+-- the remaining rest coloured and halved, where there is any
+unfoldable pub halvedOnce : Float → (ℕ → ℕ → Float) → ℕ → Float → List ℕ → Halved → Halved
+halvedOnce z u n omega rest h =
+    let r : List ℕ = remaining (h .w) rest in
+    let c : Colored = coloringOf z (scaledColumns u n (h .w) omega r) (length r) (suc n) (h .rng) in
+    pick (eqb (length r) 0) h (record { w = halvedTo (h .w) r (c .x) (sigmaOf (c .x)) (length r); rng = c .rng })

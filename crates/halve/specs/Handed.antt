@@ -1,0 +1,38 @@
+-- What a halving is handed, and what its functions say to each other.
+use Prim.Native.Nat.{ℕ, _+_, _*_, _≤_}
+use mathlib.Core.Path.{_≡_}
+use mathlib.Core.List.{List}
+use lib.ListN.{length}
+use lib.Ieee.{Float}
+use Rattle.coloring.specs.Coloring.{Colored}
+use Rattle.weights.specs.Indices.{Below}
+use Rattle.doubling.specs.Doubling.{halvedTo, sigmaOf}
+use Rattle.halve.specs.Halve.{Halved}
+
+-- a colouring of some indices has its columns and its scratch
+pub record Lent (u : List Float) (n : ℕ) (w : List Float) (some : List ℕ) (scale x numbers : List Float) (blocked : List ℕ) : Type 0 where
+  pub whole : length u ≡ length w * n
+  pub inside : Below some (length w)
+  pub few : length some ≤ 256
+  pub short : n ≤ 4096
+  pub scales : length scale ≡ length some
+  pub colours : length x ≡ length some
+  pub floats : 3 * (n + 1) + length some * length some ≤ length numbers
+  pub rows : length blocked ≡ n + 1
+
+-- w is v with the weights at some indices halved by the colours c, and s the generator after them
+pub record HalvedBy (c : Colored) (v : List Float) (some : List ℕ) (w : List Float) (s : ℕ) : Type 0 where
+  pub weights : w ≡ halvedTo v some (c .x) (sigmaOf (c .x)) (length some)
+  pub rng : s ≡ c .rng
+
+-- the matrix has a column for each weight, and there is scratch for a colouring of any of them with one more row
+pub record Ready (u : List Float) (n : ℕ) (w numbers : List Float) (indices : List ℕ) : Type 0 where
+  pub whole : length u ≡ length w * n
+  pub few : length w ≤ 256
+  pub short : n ≤ 4096
+  pub floats : 3 * (n + 1) + length w * length w ≤ length numbers
+  pub words : n + 1 ≤ length indices
+
+-- weights and a generator
+abbrev pub halvesOf : List Float → ℕ → Halved
+halvesOf w rng = record { w = w; rng = rng }

@@ -1,0 +1,3 @@
+-- One halving.
+pub mod Halve
+pub mod Handed

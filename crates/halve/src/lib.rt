@@ -1,0 +1,84 @@
+// One halving: the remaining rest is coloured, and its weights are doubled or zeroed.
+use coloring::coloring;
+use doubling::double_or_zero;
+use doubling::remaining_into;
+use doubling::scales_into;
+use doubling::sigma_of;
+use draw::SplitMix64;
+ghost use mathlib.Core.Path.{_≡_};
+ghost use Prim.Native.Nat.{suc, _≤_};
+ghost use lib.ListN.{length};
+ghost use Rattle.seq.specs.Sums.{plusZero};
+ghost use Rattle.coloring.specs.Coloring.{coloringOf};
+ghost use Rattle.limits.specs.Matrix.{columnsOf};
+ghost use Rattle.weights.specs.Indices.{Below};
+ghost use Rattle.halve.specs.Halve.{scaledColumns, halvedOnce};
+ghost use Rattle.halve.specs.Handed.{halvesOf, Lent, HalvedBy, Ready};
+
+// Colours some indices and halves their weights; the generator after it. scale, x and blocked are scratch.
+fn halve_some(
+    matrix: &[f64],
+    n: usize,
+    w: &mut [f64],
+    omega: f64,
+    some: &[u32],
+    scale: &mut [f64],
+    x: &mut [f64],
+    numbers: &mut [f64],
+    blocked: &mut [u32],
+    rng: SplitMix64,
+) -> SplitMix64
+    requires { ⌜ Lent (now matrix) n (now w) (now some) (now scale) (now x) (now numbers) (now blocked) ⌝ }
+    ensures { λ r. ⌜ HalvedBy (coloringOf plusZero (scaledColumns (columnsOf (now (matrix .entry)) n) n (now (w .entry)) omega (now (some .entry))) (length (now (some .entry))) (suc n) (rng .state)) (now (w .entry)) (now (some .entry)) (now (w .exit)) (r .state) ⌝ }
+{
+    scales_into(&mut scale[..], &w[..], omega, some);
+    let r = coloring(
+        matrix,
+        n,
+        some,
+        &scale[..],
+        &mut x[..],
+        numbers,
+        blocked,
+        rng,
+    );
+    let sigma = sigma_of(&x[..]);
+    double_or_zero(w, some, &x[..], sigma);
+    r
+}
+
+// Colours the remaining rest and halves it, where there is any; the generator after it.
+pub fn halve(
+    matrix: &[f64],
+    n: usize,
+    w: &mut [f64],
+    omega: f64,
+    rest: &[u32],
+    numbers: &mut [f64],
+    indices: &mut [u32],
+    rng: SplitMix64,
+) -> SplitMix64
+    requires { ⌜ Ready (now matrix) n (now w) (now numbers) (now indices) × Below (now rest) (length (now w)) × (length (now rest) ≤ length (now w)) ⌝ }
+    ensures { λ r. ⌜ halvesOf (now (w .exit)) (r .state) ≡ halvedOnce plusZero (columnsOf (now (matrix .entry)) n) n omega (now (rest .entry)) (halvesOf (now (w .entry)) (rng .state)) ⌝ }
+{
+    let mut some = [0u32; 256];
+    let mut scale = [0.0f64; 256];
+    let mut x = [0.0f64; 256];
+    let rows = n + 1;
+    let k = remaining_into(&mut some[..], rest, &w[..]);
+    if k == 0 {
+        return rng;
+    }
+    halve_some(
+        matrix,
+        n,
+        w,
+        omega,
+        &some[..k],
+        &mut scale[..k],
+        &mut x[..k],
+        numbers,
+        &mut indices[..rows],
+        rng,
+    )
+}

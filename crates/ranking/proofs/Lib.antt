@@ -1,0 +1,2 @@
+-- The laws of the order by magnitude.
+mod Ordering

@@ -1,0 +1,2 @@
+-- The order by magnitude.
+pub mod Ranking

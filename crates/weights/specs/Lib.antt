@@ -1,0 +1,3 @@
+-- Weights, and indices of them.
+pub mod Weights
+pub mod Indices
