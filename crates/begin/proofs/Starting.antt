@@ -16,7 +16,8 @@ use Rattle.seq.proofs.Filling.{length-tab}
 use Rattle.seq.proofs.Parts.{length-part, length-placed, part-same, part-below}
 use Rattle.seq.proofs.Sorting.{length-sorted, sorted-all, take-all-of}
 use Rattle.linear.specs.Held.{Inserted}
-use Rattle.entries.specs.Rows.{rowOf, rowNorms, comesFirst, firstRows}
+use Rattle.entries.specs.Rows.{rowOf, rowNorms, firstRows}
+use Rattle.order.specs.Order.{comesFirst}
 use Rattle.freeze.specs.Freeze.{blocking}
 use Rattle.begin.specs.Begin.{blockTo, marksTo}
 use Rattle.freeze.specs.Held.{axIn, basisIn}

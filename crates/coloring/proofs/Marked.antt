@@ -20,7 +20,8 @@ use Rattle.seq.specs.Until.{run}
 use Rattle.seq.proofs.Filling.{length-tab, getD-tab}
 use Rattle.ieee.specs.Magnitude.{absOf, signumOf}
 use lib.Ieee.Scale.{finite}
-use Rattle.entries.specs.Rows.{isSet, times}
+use Rattle.entries.specs.Rows.{times}
+use Rattle.order.specs.Order.{isSet}
 use Rattle.direction.specs.Direction.{drawn, directed, tooShort, uphill, turned}
 use Rattle.direction.specs.Constants.{one, minusOne, freezeLimit}
 use Rattle.direction.specs.Step.{reachTo, moved, movedAt}

@@ -12,7 +12,8 @@ use Rattle.seq.specs.Keep.{keep}
 use Rattle.seq.proofs.Filling.{length-tab, tab-cong}
 use Rattle.seq.proofs.Keeping.{keep-good}
 use Rattle.linear.specs.Vectors.{maxAbsTo, maxAbsOf}
-use Rattle.entries.specs.Rows.{isSet, times}
+use Rattle.entries.specs.Rows.{times}
+use Rattle.order.specs.Order.{isSet}
 use Rattle.begin.specs.Begin.{begun}
 use Rattle.direction.specs.Constants.{improvement}
 use Rattle.walk.proofs.SameEntries.{run-cong, phase-same, begun-same, times-same}

@@ -14,7 +14,7 @@ use Rattle.seq.specs.Keep.{keep}
 use Rattle.ieee.specs.Flat.{Alike, isZero}
 use Rattle.ieee.proofs.Alikes.{alike-refl, le-alike, pick-alike}
 use Rattle.ieee.proofs.Equality.{alike-nonzero}
-use Rattle.entries.specs.Rows.{isSet}
+use Rattle.order.specs.Order.{isSet}
 use Rattle.direction.specs.Constants.{one, minusOne}
 use Rattle.freeze.specs.Freeze.{Walk}
 use Rattle.begin.specs.Begin.{begun}

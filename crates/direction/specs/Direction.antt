@@ -11,7 +11,7 @@ use Rattle.draw.specs.Gaussian.{gaussianOf, afterGaussian}
 use Rattle.linear.specs.Vectors.{dotOf, normOf}
 use Rattle.linear.specs.Basis.{projected}
 use Rattle.direction.specs.Constants.{degenerate}
-use Rattle.entries.specs.Rows.{isSet}
+use Rattle.order.specs.Order.{isSet}
 
 -- the generator's state after k draws
 unfoldable pub afterDraws : ℕ → ℕ → ℕ

@@ -15,43 +15,18 @@ use Rattle.ieee.proofs.Maximum.{le-self, larger-nan, larger-is, largest-number,
 use Rattle.ieee.proofs.Sums.{abs-fits}
 use Rattle.seq.specs.Sums.{plusZero}
 use Rattle.linear.specs.Vectors.{maxAbsTo}
+use Rattle.order.proofs.NotAbove.{not-under, decide}
 
--- nothing is below a NaN, and a NaN is at or below nothing
+-- nothing is below a NaN
 none-below : (x : Float) → lt x nan ≡ false
 unfolding lt
 none-below nan = refl
 none-below (inf s) = refl
 none-below (fin s m e) = refl
 
-pub not-under : (x : Float) → le x nan ≡ false
-unfolding le lt eq
-not-under nan = refl
-not-under (inf s) = refl
-not-under (fin s m e) = refl
-
 yes : (t : Bool) → not t ≡ false → T t
 yes true e = tt
 yes false e = absurd (false≢true (sym e))
-
--- a value is a NaN or a number
-decide : (x : Float) → (x ≡ nan) ⊎ T (isNum x)
-decide nan = inl refl
-decide (inf s) = inr tt
-decide (fin s m e) = inr tt
-
--- what is at most as large stands not above
-pub not-above : (a b : Float) → T (fits binary64 a) → T (fits binary64 b) → le (absOf a) (absOf b) ≡ true → aboveOf a b ≡ false
-not-above nan b p q e = unfold le lt eq in absurd (false≢true e)
-not-above (inf s) b p q e = unfold aboveOf in sized (decide (absOf b))
-  where
-    sized : (absOf b ≡ nan) ⊎ T (isNum (absOf b)) → lt (absOf b) (inf false) ≡ false
-    sized (inl d) = absurd (false≢true (sym (not-under (inf false)) ∙ ap (le (inf false)) (sym d) ∙ e))
-    sized (inr h) = lt-not-le (record { held = abs-fits binary64 b q; num = h }) (record { held = abs-fits binary64 (inf s) p; num = tt }) ∙ ap not e
-not-above (fin s m d) b p q e = unfold aboveOf in sized (decide (absOf b))
-  where
-    sized : (absOf b ≡ nan) ⊎ T (isNum (absOf b)) → lt (absOf b) (fin false m d) ≡ false
-    sized (inl g) = absurd (false≢true (sym (not-under (fin false m d)) ∙ ap (le (fin false m d)) (sym g) ∙ e))
-    sized (inr h) = lt-not-le (record { held = abs-fits binary64 b q; num = h }) (record { held = abs-fits binary64 (fin s m d) p; num = tt }) ∙ ap not e
 
 -- the largest magnitude is the largest of the magnitudes
 as-largest : (v : ℕ → Float) (k : ℕ) → maxAbsTo v k ≡ largestTo (λ (j : ℕ). absOf (v j)) k

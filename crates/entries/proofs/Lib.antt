@@ -1,5 +1,4 @@
--- Laws of the entries and of the rows, for every crate above.
+-- Laws of the entries, for every crate above.
 pub mod Reading
-pub mod Ranking
+pub mod Skipping
 pub mod Bounding
-pub mod InOrder

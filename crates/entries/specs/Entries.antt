@@ -2,9 +2,10 @@
 use Prim.Native.Nat.{ℕ, _+_, _*_, _≤_, _<_}
 use mathlib.Core.Path.{_≡_}
 use mathlib.Core.List.{List}
-use lib.Dec.{ltb}
+use lib.Dec.{T, ltb}
 use lib.ListN.{length, getD}
 use lib.Ieee.{Float, binary64, mul}
+use lib.Ieee.Scale.{finite}
 use Rattle.seq.specs.Choice.{pick}
 use Rattle.seq.specs.Lists.{part}
 use Rattle.seq.specs.Sums.{at}
@@ -18,7 +19,7 @@ scaledAt column s i = pick (ltb i (length column)) (mul binary64 (at column i) s
 abbrev pub entryOf : List Float → ℕ → List ℕ → List Float → ℕ → ℕ → Float
 entryOf u n cols scale p = scaledAt (part (getD cols p 0 * n) n u) (at scale p)
 
--- every chosen column lies in u, and there are n rows, or n + 1
+-- every chosen column lies in u, there are n rows, or n + 1, and a finite scale leaves every entry finite
 pub record Chosen (u : List Float) (n : ℕ) (cols : List ℕ) (scale : List Float) (rows : ℕ) : Type 0 where
   pub low : n ≤ rows
   pub high : rows ≤ n + 1
@@ -26,3 +27,4 @@ pub record Chosen (u : List Float) (n : ℕ) (cols : List ℕ) (scale : List Flo
   pub few : length cols ≤ 256
   pub paired : length scale ≡ length cols
   pub inside : (p : ℕ) → p < length cols → getD cols p 0 * n + n ≤ length u
+  pub sound : (p i : ℕ) → p < length cols → T (finite (at scale p)) → T (finite (entryOf u n cols scale p i))

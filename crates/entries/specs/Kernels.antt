@@ -1,17 +1,21 @@
 -- What a column does to a vector over the rows, row by row.
-use Prim.Native.Nat.{ℕ, _+_}
+use Prim.Native.Nat.{ℕ, _+_, _≤_, _<_}
 use mathlib.Core.List.{List}
+use lib.Dec.{T}
+use lib.ListN.{length}
 use lib.Ieee.{Float, binary64, add, sub, mul}
+use lib.Ieee.Scale.{finite}
 use Rattle.seq.specs.Sums.{at}
+use Rattle.ieee.specs.Flat.{isZero}
 
 -- acc + column g
 abbrev pub plusAt : (ℕ → Float) → Float → List Float → ℕ → Float
 plusAt column g acc i = add binary64 (at acc i) (mul binary64 (column i) g)
 
--- acc + four columns of a matrix from p on, each times its entry of g, in order
-abbrev pub plusFour : (ℕ → ℕ → Float) → List Float → ℕ → List Float → ℕ → Float
-plusFour a g p acc i =
-    add binary64 (add binary64 (add binary64 (add binary64 (at acc i) (mul binary64 (a p i) (at g p))) (mul binary64 (a (p + 1) i) (at g (p + 1)))) (mul binary64 (a (p + 2) i) (at g (p + 2)))) (mul binary64 (a (p + 3) i) (at g (p + 3)))
+-- acc + column g + other h
+abbrev pub plusTwo : (ℕ → Float) → Float → (ℕ → Float) → Float → List Float → ℕ → Float
+plusTwo column g other h acc i =
+    add binary64 (add binary64 (at acc i) (mul binary64 (column i) g)) (mul binary64 (other i) h)
 
 -- acc + column²
 abbrev pub squaredAt : (ℕ → Float) → List Float → ℕ → Float
@@ -20,3 +24,10 @@ squaredAt column acc i = add binary64 (at acc i) (mul binary64 (column i) (colum
 -- ax - t column
 abbrev pub lessAt : (ℕ → Float) → Float → List Float → ℕ → Float
 lessAt column t ax i = sub binary64 (at ax i) (mul binary64 t (column i))
+
+-- from `from` up to r, g is a zero and the scale finite; r is past the end only where `from` is
+pub record Passed (scale g : List Float) (from r : ℕ) : Type 0 where
+  pub low : from ≤ r
+  pub high : r ≤ from + length g
+  pub inside : from ≤ length g → r ≤ length g
+  pub nothing : (k : ℕ) → from ≤ k → k < r → T (isZero (at g k)) × T (finite (at scale k))

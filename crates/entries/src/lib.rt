@@ -1,18 +1,17 @@
 // How an entry is read: every function that touches the matrix. A column is chosen, scaled by s, and |s| stands under it where there is one more row.
-pub mod rows;
-
 use ieee::abs;
+use ieee::is_finite;
 use seq::clear;
 ghost use mathlib.Core.Path.{_≡_};
 ghost use Prim.Native.Nat.{_≤_, _<_, _+_};
 ghost use lib.ListN.{length};
 ghost use lib.Ieee.{lt};
 ghost use Rattle.seq.specs.Lists.{tabulate};
-ghost use Rattle.seq.specs.Sums.{plusZero};
+ghost use Rattle.seq.specs.Sums.{plusZero, at};
 ghost use Rattle.linear.specs.Vectors.{maxAbsTo};
 ghost use Rattle.entries.specs.Rows.{rowOf, rowNorms, times};
 ghost use Rattle.entries.specs.Entries.{scaledAt, entryOf, Chosen};
-ghost use Rattle.entries.specs.Kernels.{plusAt, plusFour, squaredAt, lessAt};
+ghost use Rattle.entries.specs.Kernels.{plusAt, plusTwo, squaredAt, lessAt, Passed};
 
 // acc + g times the column.
 fn add_column(acc: &mut [f64], column: &[f64], s: f64, g: f64)
@@ -108,71 +107,96 @@ pub fn row_into(v: &mut [f64], u: &[f64], n: usize, cols: &[u32], scale: &[f64],
     }
 }
 
-// acc + four columns from p on, each times its g, in order.
-fn add_four(acc: &mut [f64], u: &[f64], n: usize, cols: &[u32], scale: &[f64], g: &[f64], p: usize)
-    requires { ⌜ Chosen (now u) n (now cols) (now scale) (length (now acc)) × (length (now g) ≡ length (now cols)) × (p + 4 ≤ length (now cols)) ⌝ }
-    ensures { λ _. ⌜ now (acc .exit) ≡ tabulate (plusFour (entryOf (now (u .entry)) n (now (cols .entry)) (now (scale .entry))) (now (g .entry)) p (now (acc .entry))) (length (now (acc .entry))) ⌝ }
+// acc + two columns, each times its g, in order.
+fn add_two(acc: &mut [f64], first: &[f64], s: f64, g: f64, second: &[f64], t: f64, h: f64)
+    requires { ⌜ (length (now second) ≡ length (now first)) × (length (now first) ≤ length (now acc)) × (length (now acc) ≤ length (now first) + 1) ⌝ }
+    ensures { λ _. ⌜ now (acc .exit) ≡ tabulate (plusTwo (scaledAt (now (first .entry)) s) g (scaledAt (now (second .entry)) t) h (now (acc .entry))) (length (now (acc .entry))) ⌝ }
 {
-    let a0 = (cols[p] as usize) * n;
-    let a1 = (cols[p + 1] as usize) * n;
-    let a2 = (cols[p + 2] as usize) * n;
-    let a3 = (cols[p + 3] as usize) * n;
-    let s0 = scale[p];
-    let s1 = scale[p + 1];
-    let s2 = scale[p + 2];
-    let s3 = scale[p + 3];
-    let g0 = g[p];
-    let g1 = g[p + 1];
-    let g2 = g[p + 2];
-    let g3 = g[p + 3];
     let mut i = 0usize;
-    while i < n {
-        let two = (acc[i] + (u[a0 + i] * s0) * g0) + (u[a1 + i] * s1) * g1;
-        acc[i] = (two + (u[a2 + i] * s2) * g2) + (u[a3 + i] * s3) * g3;
+    while i < first.len() {
+        acc[i] = (acc[i] + (first[i] * s) * g) + (second[i] * t) * h;
         i += 1;
     }
     if i < acc.len() {
-        let two = (acc[i] + abs(s0) * g0) + abs(s1) * g1;
-        acc[i] = (two + abs(s2) * g2) + abs(s3) * g3;
+        acc[i] = (acc[i] + abs(s) * g) + abs(t) * h;
     }
 }
 
-// acc, which has the sums over the first columns, plus the columns from `from` on, one by one.
-fn add_from(
+// The first place from `from` on whose column may add something, or where the places end. Where g is 0.0 and the scale is finite, the
+// column's entries are finite too, and it adds nothing.
+fn next_live(scale: &[f64], g: &[f64], from: usize) -> usize
+    requires { ⌜ length (now scale) ≡ length (now g) ⌝ }
+    ensures { λ r. ⌜ Passed (now (scale .entry)) (now (g .entry)) from r ⌝ }
+{
+    let mut p = from;
+    while p < g.len() {
+        if g[p] != 0.0 {
+            return p;
+        }
+        if !is_finite(scale[p]) {
+            return p;
+        }
+        p += 1;
+    }
+    p
+}
+
+// acc, which has the sums over the columns before p, plus column p.
+fn add_one_at(
     acc: &mut [f64],
     u: &[f64],
     n: usize,
     cols: &[u32],
     scale: &[f64],
     g: &[f64],
-    from: usize,
+    p: usize,
 )
-    requires { ⌜ Chosen (now u) n (now cols) (now scale) (length (now acc)) × (length (now g) ≡ length (now cols)) × (from ≤ length (now cols)) × (now acc ≡ times plusZero (entryOf (now u) n (now cols) (now scale)) from (length (now acc)) (now g)) ⌝ }
-    ensures { λ _. ⌜ now (acc .exit) ≡ times plusZero (entryOf (now (u .entry)) n (now (cols .entry)) (now (scale .entry))) (length (now (cols .entry))) (length (now (acc .entry))) (now (g .entry)) ⌝ }
+    requires { ⌜ Chosen (now u) n (now cols) (now scale) (length (now acc)) × (length (now g) ≡ length (now cols)) × (p < length (now cols)) ⌝ }
+    ensures { λ _. ⌜ now (acc .exit) ≡ tabulate (plusAt (entryOf (now (u .entry)) n (now (cols .entry)) (now (scale .entry)) p) (at (now (g .entry)) p) (now (acc .entry))) (length (now (acc .entry))) ⌝ }
 {
-    let mut p = from;
-    while p < cols.len() {
-        let a = (cols[p] as usize) * n;
-        let e = a + n;
-        let s = scale[p];
-        let gp = g[p];
-        add_column(&mut acc[..], &u[a..e], s, gp);
-        p += 1;
-    }
+    let a = (cols[p] as usize) * n;
+    let e = a + n;
+    add_column(acc, &u[a..e], scale[p], g[p]);
 }
 
-// The matrix times g, four columns at a time; each row's sum is in the columns' order.
+// acc plus columns p and q, in order.
+fn add_two_at(
+    acc: &mut [f64],
+    u: &[f64],
+    n: usize,
+    cols: &[u32],
+    scale: &[f64],
+    g: &[f64],
+    p: usize,
+    q: usize,
+)
+    requires { ⌜ Chosen (now u) n (now cols) (now scale) (length (now acc)) × (length (now g) ≡ length (now cols)) × (p < length (now cols)) × (q < length (now cols)) ⌝ }
+    ensures { λ _. ⌜ now (acc .exit) ≡ tabulate (plusTwo (entryOf (now (u .entry)) n (now (cols .entry)) (now (scale .entry)) p) (at (now (g .entry)) p) (entryOf (now (u .entry)) n (now (cols .entry)) (now (scale .entry)) q) (at (now (g .entry)) q) (now (acc .entry))) (length (now (acc .entry))) ⌝ }
+{
+    let a = (cols[p] as usize) * n;
+    let e = a + n;
+    let b = (cols[q] as usize) * n;
+    let f = b + n;
+    add_two(acc, &u[a..e], scale[p], g[p], &u[b..f], scale[q], g[q]);
+}
+
+// The matrix times g, two columns at a time, without those that add nothing; each row's sum is in the columns' order.
 pub fn times_into(acc: &mut [f64], u: &[f64], n: usize, cols: &[u32], scale: &[f64], g: &[f64])
     requires { ⌜ Chosen (now u) n (now cols) (now scale) (length (now acc)) × (length (now g) ≡ length (now cols)) ⌝ }
     ensures { λ _. ⌜ now (acc .exit) ≡ times plusZero (entryOf (now (u .entry)) n (now (cols .entry)) (now (scale .entry))) (length (now (cols .entry))) (length (now (acc .entry))) (now (g .entry)) ⌝ }
 {
     clear(&mut acc[..]);
-    let mut p = 0usize;
-    while p + 4 <= cols.len() {
-        add_four(&mut acc[..], u, n, cols, scale, g, p);
-        p += 4;
+    let mut p = next_live(scale, g, 0);
+    while p < cols.len() {
+        let q = next_live(scale, g, p + 1);
+        if q < cols.len() {
+            add_two_at(&mut acc[..], u, n, cols, scale, g, p, q);
+            p = next_live(scale, g, q + 1);
+        } else {
+            add_one_at(&mut acc[..], u, n, cols, scale, g, p);
+            p = q;
+        }
     }
-    add_from(acc, u, n, cols, scale, g, p);
 }
 
 // The sums of the rows' squares.

@@ -19,7 +19,8 @@ use Rattle.linear.specs.Basis.{inserted}
 use Rattle.linear.specs.Held.{vectorsIn, Inserted}
 use Rattle.linear.proofs.Bases.{inserted-most, length-vectors}
 use Rattle.entries.specs.Entries.{Chosen}
-use Rattle.entries.specs.Rows.{rowOf, worstTo}
+use Rattle.entries.specs.Rows.{rowOf}
+use Rattle.order.specs.Order.{worstTo}
 use Rattle.direction.specs.Constants.{freezeLimit}
 use Rattle.freeze.specs.Freeze.{Walk, axis, freezes, blocking, frozenAt, freezeTo}
 use Rattle.freeze.specs.Held.{axIn, basisIn, held, Roomy, worstIn, roomFor, Blocked}
@@ -28,7 +29,7 @@ use Rattle.freeze.proofs.Scratch.{rest-is, back-rest, back-front, walk-
 -- columns that are chosen for some rows are chosen for n
 pub chosen-own : {u : List Float} {n : ℕ} {cols : List ℕ} {scale : List Float} {rows : ℕ} → Chosen u n cols scale rows → Chosen u n cols scale n
 chosen-own c =
-    record { low = omega arith; high = omega arith; short = omega arith; few = c .few; paired = c .paired; inside = c .inside }
+    record { low = omega arith; high = omega arith; short = omega arith; few = c .few; paired = c .paired; inside = c .inside; sound = c .sound }
 
 -- ---- one insertion into the basis that the scratch holds
 

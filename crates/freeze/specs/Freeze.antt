@@ -11,7 +11,8 @@ use Rattle.seq.specs.Sums.{plusZero, at}
 use Rattle.ieee.specs.Magnitude.{absOf, signumOf}
 use Rattle.linear.specs.Basis.{inserted}
 use Rattle.direction.specs.Constants.{one, freezeLimit}
-use Rattle.entries.specs.Rows.{rowOf, isSet, worstTo}
+use Rattle.entries.specs.Rows.{rowOf}
+use Rattle.order.specs.Order.{isSet, worstTo}
 
 -- The coordinates of the phase's l columns, which of them are free, how many froze in this phase, A x,
 -- which rows are blocked, the basis that directions are projected out of, and the generator.

@@ -10,7 +10,7 @@ use Rattle.seq.specs.Choice.{pick}
 use Rattle.seq.specs.Lists.{part}
 use Rattle.seq.specs.Sums.{plusZero}
 use Rattle.linear.specs.Held.{vectorsIn}
-use Rattle.entries.specs.Rows.{worstTo}
+use Rattle.order.specs.Order.{worstTo}
 use Rattle.freeze.specs.Freeze.{Walk, blocking}
 
 -- A x and A g, of so many rows

@@ -1,9 +1,9 @@
 // How coordinates freeze, and how rows are blocked.
 use entries::row_into;
-use entries::rows::worst;
 use ieee::abs;
 use ieee::signum;
 use linear::insert;
+use order::worst;
 use seq::clear;
 ghost use mathlib.Core.Path.{_≡_};
 ghost use Prim.Native.Nat.{ℕ, _≤_, _<_, _*_, _+_};

@@ -17,7 +17,7 @@ use Rattle.seq.specs.Sums.{plusZero, at}
 use Rattle.seq.specs.Keep.{keep, Pushed}
 use Rattle.seq.proofs.Filling.{length-tab, getD-tab}
 use Rattle.seq.proofs.Keeping.{keep-short, keep-good}
-use Rattle.entries.specs.Rows.{isSet}
+use Rattle.order.specs.Order.{isSet}
 use Rattle.entries.specs.Entries.{entryOf, Chosen}
 use Rattle.freeze.specs.Freeze.{Walk}
 use Rattle.begin.specs.Begin.{begun}

@@ -7,7 +7,7 @@ use Rattle.seq.specs.Choice.{pick}
 use Rattle.seq.specs.Lists.{tabulate}
 use Rattle.seq.specs.Sums.{plusZero, at}
 use Rattle.direction.specs.Constants.{one, minusOne}
-use Rattle.entries.specs.Rows.{isSet}
+use Rattle.order.specs.Order.{isSet}
 
 -- every place is below k
 pub record Below (places : List ℕ) (k : ℕ) : Type 0 where

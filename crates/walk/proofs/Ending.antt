@@ -15,7 +15,8 @@ use Rattle.seq.specs.Choice.{pick}
 use Rattle.seq.specs.Keep.{count}
 use Rattle.seq.specs.Until.{run}
 use Rattle.seq.proofs.Loops.{stays, enough, turns}
-use Rattle.entries.specs.Rows.{isSet, times}
+use Rattle.entries.specs.Rows.{times}
+use Rattle.order.specs.Order.{isSet}
 use Rattle.direction.specs.Direction.{drawn, directed, tooShort, uphill, turned}
 use Rattle.direction.specs.Step.{reachTo}
 use Rattle.freeze.specs.Freeze.{Walk, freezes, frozenAt, freezeTo}

@@ -13,7 +13,8 @@ use Rattle.seq.specs.Lists.{repeated}
 use Rattle.seq.specs.Sums.{plusZero}
 use Rattle.seq.proofs.Filling.{length-tab}
 use Rattle.linear.proofs.Bases.{length-vectors, inserted-most}
-use Rattle.entries.specs.Rows.{times, isSet, rowOf, firstRows}
+use Rattle.entries.specs.Rows.{times, rowOf, firstRows}
+use Rattle.order.specs.Order.{isSet}
 use Rattle.direction.specs.Direction.{drawn, directed, tooShort, uphill, turned}
 use Rattle.direction.specs.Step.{reachTo}
 use Rattle.freeze.specs.Freeze.{Walk, freezeTo}

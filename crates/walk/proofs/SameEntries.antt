@@ -20,7 +20,8 @@ use Rattle.seq.proofs.Filling.{tab-cong}
 use Rattle.seq.proofs.Summing.{sum-cong}
 use Rattle.seq.proofs.Sorting.{sorted-all, take-all-of}
 use Rattle.linear.specs.Basis.{inserted}
-use Rattle.entries.specs.Rows.{rowOf, rowNorm, rowNorms, times, comesFirst, firstRows, worstTo}
+use Rattle.entries.specs.Rows.{rowOf, rowNorm, rowNorms, times, firstRows}
+use Rattle.order.specs.Order.{comesFirst, worstTo}
 use Rattle.direction.specs.Direction.{uphill, turned, drawn, directed, tooShort}
 use Rattle.direction.specs.Step.{reachTo}
 use Rattle.freeze.specs.Freeze.{Walk, axis, freezes, blocking, frozenAt, freezeTo}

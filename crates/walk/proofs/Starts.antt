@@ -17,7 +17,8 @@ use Rattle.ieee.proofs.Alikes.{alike-refl, alike-of-eq, add-alike, sub-alike, m
 use Rattle.ieee.proofs.Equality.{signum-alike}
 use Rattle.linear.specs.Vectors.{dotOf, normOf}
 use Rattle.linear.specs.Basis.{lessAt, stripped, passTo, projected, dropTolerance, taken, overAt, unit, inserted}
-use Rattle.entries.specs.Rows.{rowOf, rowNorm, rowNorms, timesAt, times, comesFirst, firstRows, isSet, worstTo}
+use Rattle.entries.specs.Rows.{rowOf, rowNorm, rowNorms, timesAt, times, firstRows}
+use Rattle.order.specs.Order.{comesFirst, isSet, worstTo}
 use Rattle.direction.specs.Constants.{one, minusOne, degenerate, freezeLimit}
 use Rattle.direction.specs.Direction.{afterDraws, drawn, zeroedAt, zeroed, directed, tooShort, uphill, turnedAt, turned}
 use Rattle.direction.specs.Step.{reachAt, reachTo, movedAt, moved, alongAt, along}

@@ -1,0 +1,2 @@
+-- The order of the rows.
+pub mod Order
