@@ -1,4 +1,4 @@
--- `walk::advance` meets its contract: a law for each way out, a step that is not finite and one that is made.
+-- `advance::advance` meets its contract: a law for each way out, a step that is not finite and one that is made.
 use borrow.Author.Tests.{not-true, not-false}
 use Rattle.entries.specs.Entries.{entryOf}
 use Rattle.advance.proofs.Advancing.{no-way, goes-along}

@@ -1,4 +1,4 @@
--- `walk::turn_downhill` meets its contract: the law `downhill`, at what its calls ensure.
+-- `advance::turn_downhill` meets its contract: the law `downhill`, at what its calls ensure.
 use Rattle.entries.specs.Entries.{entryOf}
 use Rattle.seq.proofs.Parts.{length-part}
 use Rattle.advance.proofs.Advancing.{downhill}

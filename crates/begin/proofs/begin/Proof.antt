@@ -1,4 +1,4 @@
--- `walk::begin` meets its contract: the rows that `first_rows` leaves are those most at risk, and `block_first` blocks them.
+-- `begin::begin` meets its contract: the rows that `first_rows` leaves are those most at risk, and `block_first` blocks them.
 use Rattle.entries.specs.Entries.{entryOf}
 use lib.Seq.{length-take-le}
 use Rattle.seq.specs.Lists.{repeated}

@@ -1,4 +1,4 @@
--- `walk::block_first` meets its contract: after k turns the first k rows are blocked.
+-- `begin::block_first` meets its contract: after k turns the first k rows are blocked.
 use Rattle.freeze.proofs.Scratch.{rest-room}
 use Rattle.freeze.proofs.Freezing.{chosen-own}
 use Rattle.entries.specs.Entries.{entryOf}

@@ -1,4 +1,4 @@
--- `coloring::discrepancy::color_all` meets its contract: the columns in order, scaled by 1.0, are those of the matrix (`OwnColumns`), and the colouring reads no others.
+-- `discrepancy::color_all` meets its contract: the columns in order, scaled by 1.0, are those of the matrix (`OwnColumns`), and the colouring reads no others.
 use Rattle.discrepancy.proofs.Fronts.{front-few, filled-back, filled-long}
 use lib.Seq.{length-take-le}
 use Rattle.discrepancy.proofs.OwnColumns.{own-asked, own-left}

@@ -1,5 +1,5 @@
 use Rattle.discrepancy.proofs.Accepted.{granted, unbounded}
--- `coloring::discrepancy::coloring_fault` meets its contract: each way out is one case of the definition, the tests before it having failed.
+-- `discrepancy::coloring_fault` meets its contract: each way out is one case of the definition, the tests before it having failed.
 use borrow.Author.Tests.{eq-eqb, ne-eqb}
 use Rattle.discrepancy.specs.Discrepancy.{coloringFault}
 use native.Mathlib.Nat.{mul-le-mul}

@@ -1,4 +1,4 @@
--- `coloring::discrepancy::discrepancy_coloring` meets its contract: a refusal changes nothing, and else the arguments are `Accepted` and each call leaves its part of the outcome.
+-- `discrepancy::discrepancy_coloring` meets its contract: a refusal changes nothing, and else the arguments are `Accepted` and each call leaves its part of the outcome.
 use lib.Seq.{length-take-le}
 use Rattle.discrepancy.proofs.Accepted.{accepted}
 use Rattle.discrepancy.proofs.Fronts.{front-back, back-long}

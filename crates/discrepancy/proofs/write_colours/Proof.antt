@@ -1,4 +1,4 @@
--- `coloring::discrepancy::write_colours` meets its contract: a loop that fills, of which each turn stores the colour of its coordinate.
+-- `discrepancy::write_colours` meets its contract: a loop that fills, of which each turn stores the colour of its coordinate.
 use Rattle.seq.proofs.Filling.{Filled, start, turn, whole}
 use Rattle.discrepancy.specs.Discrepancy.{colourAt}
 use borrow.Author.Needs.{needs}

@@ -1,4 +1,4 @@
--- `coloring::next_phase` meets its contract: the places are those that `keep` gives, and the two arms are the two ways of `phased`.
+-- `phasing::next_phase` meets its contract: the places are those that `keep` gives, and the two arms are the two ways of `phased`.
 use lib.Seq.{length-take-le}
 use Rattle.seq.specs.Keep.{keep}
 use Rattle.order.specs.Order.{isSet}

@@ -1,4 +1,4 @@
--- `coloring::phase_at` meets its contract: each local array is long enough for the places.
+-- `phasing::phase_at` meets its contract: each local array is long enough for the places.
 use lib.Seq.{length-take-le}
 use borrow.Author.Needs.{needs}
 use mathlib.Core.Path.{sym}

@@ -1,4 +1,4 @@
--- `coloring::phase_on` meets its contract: what is chosen is a matrix of its own that the phase runs on, and what the phase leaves is put back.
+-- `phasing::phase_on` meets its contract: what is chosen is a matrix of its own that the phase runs on, and what the phase leaves is put back.
 use Rattle.phasing.proofs.Inside.{chosen-part, roomy-part, phased-at}
 use Rattle.freeze.specs.Held.{axIn}
 use borrow.Author.Needs.{needs}

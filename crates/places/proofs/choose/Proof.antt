@@ -1,4 +1,4 @@
--- `coloring::choose` meets its contract: a loop that fills, with the elements at the places.
+-- `places::choose` meets its contract: a loop that fills, with the elements at the places.
 use Rattle.seq.proofs.Filling.{Filled, start, turn, whole}
 use Rattle.seq.specs.Sums.{at}
 use borrow.Author.Needs.{needs}

@@ -1,4 +1,4 @@
--- `coloring::choose_words` meets its contract: a loop that fills, with the words at the places.
+-- `places::choose_words` meets its contract: a loop that fills, with the words at the places.
 use Rattle.seq.proofs.Filling.{Filled, start, turn, whole}
 use borrow.Author.Needs.{needs}
 use Prim.Native.Nat.{_-_, _<_}

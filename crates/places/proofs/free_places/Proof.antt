@@ -1,4 +1,4 @@
--- `coloring::free_places` meets its contract: after j turns the places of the set marks below j stand at the front, which is what `keep` says.
+-- `places::free_places` meets its contract: after j turns the places of the set marks below j stand at the front, which is what `keep` says.
 use Rattle.seq.proofs.Keeping.{none, push, keeps, skips}
 use borrow.Author.Tests.{eq-eqb, ne-eqb}
 use Rattle.seq.specs.Keep.{keep, Pushed}

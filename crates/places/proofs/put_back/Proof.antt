@@ -1,4 +1,4 @@
--- `coloring::put_back` meets its contract: after p turns the first p values are back at their places.
+-- `places::put_back` meets its contract: after p turns the first p values are back at their places.
 use Rattle.places.proofs.Places.{put-more}
 use Rattle.places.specs.Places.{putBack}
 use Rattle.seq.specs.Sums.{plusZero}

@@ -1,4 +1,4 @@
--- `coloring::round_free` meets its contract: a loop that fills; each arm of the choice gives what `roundedAt` says, and a frozen coordinate stays.
+-- `places::round_free` meets its contract: a loop that fills; each arm of the choice gives what `roundedAt` says, and a frozen coordinate stays.
 use Rattle.places.proofs.Rounding.{round-up, round-down}
 use borrow.Author.Tests.{ne-eqb}
 use Rattle.direction.proofs.Turning.{skip}
