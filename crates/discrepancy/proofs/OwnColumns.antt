@@ -1,21 +1,27 @@
 -- The matrix as it is lent: with the columns chosen in order, each scaled by 1.0, an entry reads as it stands.
 use Prim.Native.Nat.{ℕ, _+_, _*_, _≤_, _<_}
 use mathlib.Core.Path.{_≡_, sym, ap, _∙_}
+use mathlib.Core.Bool.{true}
 use mathlib.Core.List.{List}
+use native.Mathlib.Decide.{decLt}
 use native.Mathlib.Omega.{arith}
 use lib.Dec.{T}
 use lib.ListN.{length, getD}
-use lib.Ieee.{Float, nan, binary64, mul, fits}
+use lib.Ieee.{Float, nan, binary64, ofBits, mul, fits}
+use lib.Ieee.Scale.{finite}
 use Rattle.seq.specs.Lists.{tabulate, repeated}
 use Rattle.seq.specs.Sums.{plusZero, at}
 use Rattle.seq.proofs.Filling.{length-tab, getD-tab, room}
 use Rattle.ieee.proofs.Products.{times-one}
 use Rattle.ieee.proofs.Division.{unit-is}
 use Rattle.entries.specs.Entries.{entryOf, Chosen}
-use Rattle.entries.proofs.Reading.{entry-own}
+use Rattle.entries.proofs.Reading.{entry-own, entry-under}
 use Rattle.direction.specs.Constants.{one}
 use Rattle.coloring.specs.Coloring.{Colored, coloringOf}
+use Rattle.limits.specs.Limits.{bounded}
 use Rattle.limits.specs.Matrix.{columnsOf}
+use Rattle.limits.proofs.Bounded.{bounded-at, finite-within}
+use Rattle.discrepancy.specs.Discrepancy.{mostEntry}
 use Rattle.coloring.proofs.SameColumns.{coloring-same}
 
 -- the columns in order, and a scale of 1.0 for each
@@ -33,8 +39,19 @@ module _ (u : List Float) (m n : ℕ) (area : length u ≡ m * n) where
   inside : (p : ℕ) → p < m → getD (inOrder m) p 0 * n + n ≤ length u
   inside p h = rw (getD-tab (λ i. i) m p 0 h, area) (room p m n h)
 
-  pub own-chosen : m ≤ 256 → n ≤ 4096 → Chosen u n (inOrder m) (unscaled m) n
-  own-chosen few short =
+  -- an entry within the bound is finite, and so is 1.0 under it
+  finite-own : ((i : ℕ) → T (fits binary64 (at u i))) → bounded mostEntry u ≡ true → (p i : ℕ) → p < m → T (finite (at (unscaled m) p)) → T (finite (entryOf u n (inOrder m) (unscaled m) p i))
+  unfolding ofBits
+  finite-own known within p i h t = go (decLt i n)
+    where
+      go : Dec (i < n) → T (finite (entryOf u n (inOrder m) (unscaled m) p i))
+      go (yes k) =
+          rw (entry-own u n (inOrder m) (unscaled m) p i (inside p h) k, getD-tab (λ i. i) m p 0 h, getD-tab (λ i. one) m p nan h, unscaled-is (at u (p * n + i)) (known (p * n + i)))
+          (finite-within (at u (p * n + i)) _ _ _ (bounded-at mostEntry u within (p * n + i) (omega (arith, room p m n h))))
+      go (no k) = rw (entry-under u n (inOrder m) (unscaled m) p i (inside p h) (omega arith), getD-tab (λ i. one) m p nan h) tt
+
+  pub own-chosen : m ≤ 256 → n ≤ 4096 → ((i : ℕ) → T (fits binary64 (at u i))) → bounded mostEntry u ≡ true → Chosen u n (inOrder m) (unscaled m) n
+  own-chosen few short known within =
       record {
         low = omega arith;
         high = omega arith;
@@ -42,6 +59,7 @@ module _ (u : List Float) (m n : ℕ) (area : length u ≡ m * n) where
         few = rw (length-tab (λ i. i) m) few;
         paired = length-tab (λ i. one) m ∙ sym (length-tab (λ i. i) m);
         inside = λ p h. inside p (rw (length-tab (λ i. i) m) at h);
+        sound = λ p i h t. finite-own known within p i (rw (length-tab (λ i. i) m) at h) t;
       }
 
   module _ (known : (i : ℕ) → T (fits binary64 (at u i))) where
@@ -60,10 +78,10 @@ module _ (u : List Float) (m n : ℕ) (cols : List ℕ) (scale : List Float) (bl
   many = rw ordered (length-tab (λ i. i) m)
 
   -- what the colouring of those columns asks for
-  pub own-asked : (x num : List Float) → m ≤ 256 → n ≤ 4096 → length x ≡ m → n + n + n + m * m ≤ length num
+  pub own-asked : (x num : List Float) → m ≤ 256 → n ≤ 4096 → ((i : ℕ) → T (fits binary64 (at u i))) → bounded mostEntry u ≡ true → length x ≡ m → n + n + n + m * m ≤ length num
       → Chosen u n cols scale (length blocked) × (length x ≡ length cols) × (length blocked + length blocked + length blocked + length cols * length cols ≤ length num)
-  own-asked x num few short wide room =
-      (rw (ordered, ones, rows) (own-chosen u m n area few short), wide ∙ sym many, rw (rows, many) room)
+  own-asked x num few short known within wide room =
+      (rw (ordered, ones, rows) (own-chosen u m n area few short known within), wide ∙ sym many, rw (rows, many) room)
 
   -- and what it leaves
   pub own-left : ((i : ℕ) → T (fits binary64 (at u i))) → (rng seed : ℕ) → rng ≡ seed

@@ -8,13 +8,15 @@ use seq::clear;
 use seq::clear_words;
 use seq::fill;
 ghost use mathlib.Core.Path.{_≡_};
+ghost use mathlib.Core.Bool.{true};
 ghost use Prim.Native.Nat.{_≤_, _*_, _+_};
 ghost use lib.ListN.{length};
 ghost use Rattle.seq.specs.Lists.{tabulate};
 ghost use Rattle.seq.specs.Sums.{plusZero};
 ghost use Rattle.coloring.specs.Coloring.{coloringOf};
+ghost use Rattle.limits.specs.Limits.{bounded};
 ghost use Rattle.limits.specs.Matrix.{columnsOf};
-ghost use Rattle.discrepancy.specs.Discrepancy.{coloringFault, colourAt, DiscrepancyColored};
+ghost use Rattle.discrepancy.specs.Discrepancy.{mostEntry, coloringFault, colourAt, DiscrepancyColored};
 
 // The lowest refusal number that applies, or 0.
 fn coloring_fault(
@@ -65,7 +67,7 @@ fn color_all(
     numbers: &mut [f64],
     indices: &mut [u32],
 )
-    requires { ⌜ (length (now matrix) ≡ m * n) × (m ≤ 256) × (n ≤ 4096) × (length (now x) ≡ m) × (n + n + n + m * m ≤ length (now numbers)) × (n ≤ length (now indices)) ⌝ }
+    requires { ⌜ (length (now matrix) ≡ m * n) × (m ≤ 256) × (n ≤ 4096) × (length (now x) ≡ m) × (n + n + n + m * m ≤ length (now numbers)) × (n ≤ length (now indices)) × (bounded mostEntry (now matrix) ≡ true) ⌝ }
     ensures { λ _. ⌜ now (x .exit) ≡ coloringOf plusZero (columnsOf (now (matrix .entry)) n) m n seed .x ⌝ }
 {
     let mut cols = [0u32; 256];

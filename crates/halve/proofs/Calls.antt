@@ -35,6 +35,7 @@ lent {u} {n} {w} {numbers} {indices} {rest} {k} {some} r b s p es ex eb =
       colours = ex ∙ sym long;
       floats = rw long (omega (arith, r .floats, mul-le-mul fewer fewer));
       rows = eb;
+      small = r .small;
     }
 
 -- after a call that keeps the lengths
@@ -47,4 +48,5 @@ ready-still r ew en ei =
       short = r .short;
       floats = rw (ew, en) (r .floats);
       words = rw ei (r .words);
+      small = r .small;
     }

@@ -1,3 +1,4 @@
 -- The laws of one halving.
 mod Columns
+mod FiniteEntries
 pub mod Calls

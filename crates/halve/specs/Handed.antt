@@ -1,9 +1,12 @@
 -- What a halving is handed, and what its functions say to each other.
 use Prim.Native.Nat.{ℕ, _+_, _*_, _≤_}
 use mathlib.Core.Path.{_≡_}
+use mathlib.Core.Bool.{true}
 use mathlib.Core.List.{List}
 use lib.ListN.{length}
 use lib.Ieee.{Float}
+use Rattle.limits.specs.Limits.{bounded}
+use Rattle.direction.specs.Constants.{one}
 use Rattle.coloring.specs.Coloring.{Colored}
 use Rattle.weights.specs.Indices.{Below}
 use Rattle.doubling.specs.Doubling.{halvedTo, sigmaOf}
@@ -19,19 +22,21 @@ pub record Lent (u : List Float) (n : ℕ) (w : List Float) (some : List ℕ) (s
   pub colours : length x ≡ length some
   pub floats : 3 * (n + 1) + length some * length some ≤ length numbers
   pub rows : length blocked ≡ n + 1
+  pub small : bounded one u ≡ true
 
 -- w is v with the weights at some indices halved by the colours c, and s the generator after them
 pub record HalvedBy (c : Colored) (v : List Float) (some : List ℕ) (w : List Float) (s : ℕ) : Type 0 where
   pub weights : w ≡ halvedTo v some (c .x) (sigmaOf (c .x)) (length some)
   pub rng : s ≡ c .rng
 
--- the matrix has a column for each weight, and there is scratch for a colouring of any of them with one more row
+-- the matrix has a column for each weight and no entry above 1, and there is scratch for a colouring of any of them with one more row
 pub record Ready (u : List Float) (n : ℕ) (w numbers : List Float) (indices : List ℕ) : Type 0 where
   pub whole : length u ≡ length w * n
   pub few : length w ≤ 256
   pub short : n ≤ 4096
   pub floats : 3 * (n + 1) + length w * length w ≤ length numbers
   pub words : n + 1 ≤ length indices
+  pub small : bounded one u ≡ true
 
 -- weights and a generator
 abbrev pub halvesOf : List Float → ℕ → Halved

@@ -1,2 +1,3 @@
--- What the tests of the sizes say.
+-- What the tests of the sizes and of the entries say.
 pub mod Sizes
+pub mod Bounded

@@ -52,6 +52,9 @@ module _ (u : List Float) (n : ℕ) (cols : List ℕ) (scale : List Float) (plac
         inside = λ p g.
             let q : p < length places = omega arith in
             rw (getD-tab {A = ℕ} (λ q. getD cols (getD places q 0) 0) (length places) p 0 q) (c .inside (getD places p 0) (b .below p q));
+        sound = λ p i g t.
+            let q : p < length places = omega arith in
+            rw (entry-chosen p q i) (c .sound (getD places p 0) i (b .below p q) (rw (getD-tab (λ q. at scale (getD places q 0)) (length places) p nan q) at t));
       }
 
 pub roomy-part : (k l : ℕ) (num : List Float) (blocked : List ℕ) (x some-x : List Float) (free some-free : List ℕ)

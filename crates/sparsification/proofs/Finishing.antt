@@ -13,6 +13,8 @@ use Rattle.seq.specs.Choice.{pick}
 use Rattle.seq.specs.Lists.{repeated}
 use Rattle.seq.specs.Sums.{plusZero}
 use Rattle.limits.specs.Matrix.{columnsOf}
+use Rattle.limits.specs.Limits.{bounded}
+use Rattle.direction.specs.Constants.{one}
 use Rattle.margins.specs.Margins.{maxChange}
 use Rattle.weights.specs.Weights.{nonzeros, l1Of, sound, normalized}
 use Rattle.halve.specs.Handed.{Ready}
@@ -102,8 +104,8 @@ normal-of w v v' r e g f h =
     f ∙ ap (λ (t : Bool). pick t (normalized plusZero v) v) (g ∙ ap (λ (x : List Float). sound (l1Of plusZero x)) e ∙ h) ∙ ap (normalized plusZero) e
 
 -- the sizes of an accepted job are those that a pass asks for
-pub ready-of : (u : List Float) (m n : ℕ) (w output numbers : List Float) (indices : List ℕ) → Sized m n (length u) (length w) (length output) (length numbers) (length indices) → Ready u n w numbers indices
-ready-of u m n w output numbers indices s =
+pub ready-of : (u : List Float) (m n : ℕ) (w output numbers : List Float) (indices : List ℕ) → Sized m n (length u) (length w) (length output) (length numbers) (length indices) → bounded one u ≡ true → Ready u n w numbers indices
+ready-of u m n w output numbers indices s small =
     let e : length w ≡ m = s .given in
     record {
       whole = rw e (s .whole);
@@ -111,6 +113,7 @@ ready-of u m n w output numbers indices s =
       short = s .short;
       floats = rw e (omega (arith, s .floats, room m n (s .columns)));
       words = omega (arith, s .words);
+      small = small;
     }
   where
     room : (m n : ℕ) → 1 ≤ m → n + 1 ≤ m * (n + 1)

@@ -31,7 +31,9 @@ part-norms-into-end : tie.Need-part-norms-into-end
 part-norms-into-end c = search needs
 
 norms-into-requires : tie.Need-norms-into-requires
-norms-into-requires c κs = search needs
+norms-into-requires c κs =
+    let p = c .before .before .before .before .before .before .before .pre .0 in
+    record { low = search needs; high = search needs; short = search needs; few = p .few; paired = p .paired; inside = p .inside; sound = p .sound }
 
 array-borrow-prefix-first : tie.Need-array-borrow-prefix-first
 array-borrow-prefix-first c = search needs

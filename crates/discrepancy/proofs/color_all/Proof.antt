@@ -57,14 +57,15 @@ coloring-requires : tie.Need-coloring-requires
 coloring-requires c κs =
     let c7 = c .before .before .before .before .before .before .before in
     let c10 = c7 .before .before .before in
-    let c16 = c10 .before .before .before .before .before .before in
+    let c15 = c10 .before .before .before .before .before in
+    let c16 = c15 .before in
     let indices : List ℕ = take (c16 .args .n) (c16 .args .indices .now) in
     own-asked (c16 .args .matrix .now) (c16 .args .m) (c16 .args .n) _ _ indices
     (c16 .pre .0)
     (filled-back (λ i. i) _ _ _ (c16 .pre .1) (c10 .count-up .ensures))
     (filled-back (λ i. one) _ _ _ (c16 .pre .1) (c7 .fill .ensures))
     (length-take-le (c16 .args .n) (c16 .args .indices .now) (c16 .pre .5))
-    (c16 .args .x .now) (c16 .args .numbers .now) (c16 .pre .1) (c16 .pre .2) (c16 .pre .3) (c16 .pre .4)
+    (c16 .args .x .now) (c16 .args .numbers .now) (c16 .pre .1) (c16 .pre .2) (c15 .shared-slice-known .given) (c16 .pre .6) (c16 .pre .3) (c16 .pre .4)
 
 same-length : tie.Need-same-length
 same-length c = search needs

@@ -25,7 +25,7 @@ slice-aggregate-color-all c = sym (length-take-le _ _ (accepted _ _ _ _ _ _ (sym
 color-all-requires : tie.Need-color-all-requires
 color-all-requires c κs =
     let a = accepted _ _ _ _ _ _ (sym (c .before .before .before .before .coloring-fault .ensures) ∙ c .before .before .before .if1 .left) in
-    (a .area, a .columns, a .rows, length-take-le _ _ (a .columns), a .floats, a .words)
+    (a .area, a .columns, a .rows, length-take-le _ _ (a .columns), a .floats, a .words, a .within)
 
 array-share-prefix-x : tie.Need-array-share-prefix-x
 array-share-prefix-x c =

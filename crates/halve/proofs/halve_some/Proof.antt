@@ -3,6 +3,7 @@ use borrow.Author.Needs.{needs}
 use mathlib.Core.Path.{_∙_}
 use native.Mathlib.Omega.{arith}
 use Rattle.halve.proofs.Columns.{column-inside, halved-by}
+use Rattle.halve.proofs.FiniteEntries.{finite-entry}
 use Rattle.halve.proofs.halve_some.Statement.{statement}
 use Rattle.halve.proofs.halve_some.Tie as tie
 
@@ -11,15 +12,19 @@ scales-into-requires c κs = search needs
 
 coloring-requires : tie.Need-coloring-requires
 coloring-requires c κs =
-    let a = c .before .before .before .before .before .before .before .before .before .before .before .before .before .before .before .before .args in
-    let v = c .before .before .before .before .before .before .before .before .before .before .before .before .before .before .before .before .pre in (
+    let c4 = c .before .before .before .before in
+    let c15 = c4 .before .before .before .before .before .before .before .before .before .before .before in
+    let a = c15 .before .args in
+    let v = c15 .before .pre in
+    let inside = column-inside (a .matrix .now) (a .n) (a .w .now) (a .omega) (a .some .now) (v .whole) (v .inside .below) in (
       record {
         low = omega arith;
         high = omega arith;
         short = omega arith;
         few = v .few;
-        paired = c .before .before .before .before .before .before .scales-into .kept .0 ∙ v .scales;
-        inside = column-inside (a .matrix .now) (a .n) (a .w .now) (a .omega) (a .some .now) (v .whole) (v .inside .below);
+        paired = c4 .before .before .scales-into .kept .0 ∙ v .scales;
+        inside = inside;
+        sound = λ p i h t. finite-entry (a .matrix .now) (a .n) (a .some .now) (c4 .before .before .scales-into .last .0) p i (c15 .shared-slice-known .given _) (c4 .slice-known6 .given p) (v .small) (inside p h) t;
       },
       v .colours,
       omega (arith, v .floats, v .rows),

@@ -41,7 +41,7 @@ thin-sound-requires c κs =
     let c11 = c5 .before .before .before .before .before .before in
     let a = c11 .args in
     let s = accepted (a .job .rule) (a .matrix .now) (a .m) (a .n) (a .weights .now) (length (a .output .now)) (length (a .numbers .now)) (length (a .indices .now)) (sym (c5 .job-fault .ensures) ∙ c4 .if1 .left) in
-    (ready-of (a .matrix .now) (a .m) (a .n) (a .weights .now) (a .output .now) (a .numbers .now) (a .indices .now) (s .sized), s .valued .total, length-take-le _ _ (omega (arith, s .sized .few)) ∙ sym (s .sized .given), s .sized .left ∙ sym (s .sized .given), s .ruled)
+    (ready-of (a .matrix .now) (a .m) (a .n) (a .weights .now) (a .output .now) (a .numbers .now) (a .indices .now) (s .sized) (s .valued .entries), s .valued .total, length-take-le _ _ (omega (arith, s .sized .few)) ∙ sym (s .sized .given), s .sized .left ∙ sym (s .sized .given), s .ruled)
 
 same-length : tie.Need-same-length
 same-length c = search needs
