@@ -2,3 +2,4 @@
 pub mod Rows
 pub mod Entries
 pub mod Kernels
+pub mod Signs

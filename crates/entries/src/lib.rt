@@ -3,15 +3,18 @@ use ieee::abs;
 use ieee::is_finite;
 use seq::clear;
 ghost use mathlib.Core.Path.{_≡_};
-ghost use Prim.Native.Nat.{_≤_, _<_, _+_};
-ghost use lib.ListN.{length};
+ghost use Prim.Native.Nat.{ℕ, _≤_, _<_, _+_, _*_};
+ghost use mathlib.Core.Bool.{true};
+ghost use lib.ListN.{length, getD};
 ghost use lib.Ieee.{lt};
 ghost use Rattle.seq.specs.Lists.{tabulate};
 ghost use Rattle.seq.specs.Sums.{plusZero, at};
 ghost use Rattle.linear.specs.Vectors.{maxAbsTo};
 ghost use Rattle.entries.specs.Rows.{rowOf, rowNorms, times};
 ghost use Rattle.entries.specs.Entries.{scaledAt, entryOf, Chosen};
+ghost use Rattle.limits.specs.Limits.{allTo};
 ghost use Rattle.entries.specs.Kernels.{plusAt, plusTwo, squaredAt, lessAt, Passed};
+ghost use Rattle.entries.specs.Signs.{isSign, OfSigns, AllSigns};
 
 // acc + g times the column.
 fn add_column(acc: &mut [f64], column: &[f64], s: f64, g: f64)
@@ -122,6 +125,77 @@ fn add_two(acc: &mut [f64], first: &[f64], s: f64, g: f64, second: &[f64], t: f6
     }
 }
 
+// The same of two columns whose entries are 1.0 and -1.0, by one product an entry: x·s·g is then x·(s·g).
+fn add_two_signs(acc: &mut [f64], first: &[f64], s: f64, g: f64, second: &[f64], t: f64, h: f64)
+    requires { ⌜ (length (now second) ≡ length (now first)) × (length (now first) ≤ length (now acc)) × (length (now acc) ≤ length (now first) + 1) × OfSigns (now first) × OfSigns (now second) ⌝ }
+    ensures { λ _. ⌜ now (acc .exit) ≡ tabulate (plusTwo (scaledAt (now (first .entry)) s) g (scaledAt (now (second .entry)) t) h (now (acc .entry))) (length (now (acc .entry))) ⌝ }
+{
+    let a = s * g;
+    let b = t * h;
+    let mut i = 0usize;
+    while i < first.len() {
+        acc[i] = (acc[i] + first[i] * a) + second[i] * b;
+        i += 1;
+    }
+    if i < acc.len() {
+        acc[i] = (acc[i] + abs(s) * g) + abs(t) * h;
+    }
+}
+
+// The one or the other.
+fn add_pair(
+    acc: &mut [f64],
+    first: &[f64],
+    s: f64,
+    g: f64,
+    second: &[f64],
+    t: f64,
+    h: f64,
+    signs: bool,
+)
+    requires { ⌜ (length (now second) ≡ length (now first)) × (length (now first) ≤ length (now acc)) × (length (now acc) ≤ length (now first) + 1) × (signs ≡ true → OfSigns (now first) × OfSigns (now second)) ⌝ }
+    ensures { λ _. ⌜ now (acc .exit) ≡ tabulate (plusTwo (scaledAt (now (first .entry)) s) g (scaledAt (now (second .entry)) t) h (now (acc .entry))) (length (now (acc .entry))) ⌝ }
+{
+    if signs {
+        add_two_signs(acc, first, s, g, second, t, h);
+    } else {
+        add_two(acc, first, s, g, second, t, h);
+    }
+}
+
+// Whether every entry of a column is 1.0 or -1.0.
+fn of_signs(column: &[f64]) -> bool
+    ensures { λ r. ⌜ r ≡ allTo (isSign (now (column .entry))) (length (now (column .entry))) ⌝ }
+{
+    let mut all = true;
+    let mut i = 0usize;
+    while i < column.len() {
+        all = all & (abs(column[i]) == 1.0);
+        i += 1;
+    }
+    all
+}
+
+// Whether every entry of the chosen columns is 1.0 or -1.0. Of few columns it says no: a phase on them makes too few steps to gain by it.
+pub fn all_signs(u: &[f64], n: usize, cols: &[u32]) -> bool
+    requires { ⌜ ((p : ℕ) → p < length (now cols) → getD (now cols) p 0 * n + n ≤ length (now u)) ⌝ }
+    ensures { λ r. ⌜ (r ≡ true → AllSigns (now (u .entry)) n (now (cols .entry))) ⌝ }
+{
+    if cols.len() < 16 {
+        return false;
+    }
+    let mut p = 0usize;
+    while p < cols.len() {
+        let a = (cols[p] as usize) * n;
+        let e = a + n;
+        if !of_signs(&u[a..e]) {
+            return false;
+        }
+        p += 1;
+    }
+    true
+}
+
 // The first place from `from` on whose column may add something, or where the places end. Where g is 0.0 and the scale is finite, the
 // column's entries are finite too, and it adds nothing.
 fn next_live(scale: &[f64], g: &[f64], from: usize) -> usize
@@ -169,20 +243,39 @@ fn add_two_at(
     g: &[f64],
     p: usize,
     q: usize,
+    signs: bool,
 )
-    requires { ⌜ Chosen (now u) n (now cols) (now scale) (length (now acc)) × (length (now g) ≡ length (now cols)) × (p < length (now cols)) × (q < length (now cols)) ⌝ }
+    requires { ⌜ Chosen (now u) n (now cols) (now scale) (length (now acc)) × (length (now g) ≡ length (now cols)) × (p < length (now cols)) × (q < length (now cols)) × (signs ≡ true → AllSigns (now u) n (now cols)) ⌝ }
     ensures { λ _. ⌜ now (acc .exit) ≡ tabulate (plusTwo (entryOf (now (u .entry)) n (now (cols .entry)) (now (scale .entry)) p) (at (now (g .entry)) p) (entryOf (now (u .entry)) n (now (cols .entry)) (now (scale .entry)) q) (at (now (g .entry)) q) (now (acc .entry))) (length (now (acc .entry))) ⌝ }
 {
     let a = (cols[p] as usize) * n;
     let e = a + n;
     let b = (cols[q] as usize) * n;
     let f = b + n;
-    add_two(acc, &u[a..e], scale[p], g[p], &u[b..f], scale[q], g[q]);
+    add_pair(
+        acc,
+        &u[a..e],
+        scale[p],
+        g[p],
+        &u[b..f],
+        scale[q],
+        g[q],
+        signs,
+    );
 }
 
-// The matrix times g, two columns at a time, without those that add nothing; each row's sum is in the columns' order.
-pub fn times_into(acc: &mut [f64], u: &[f64], n: usize, cols: &[u32], scale: &[f64], g: &[f64])
-    requires { ⌜ Chosen (now u) n (now cols) (now scale) (length (now acc)) × (length (now g) ≡ length (now cols)) ⌝ }
+// The matrix times g, two columns at a time, without those that add nothing; each row's sum is in the columns' order. If signs is set,
+// every entry is 1.0 or -1.0.
+pub fn times_into(
+    acc: &mut [f64],
+    u: &[f64],
+    n: usize,
+    cols: &[u32],
+    scale: &[f64],
+    g: &[f64],
+    signs: bool,
+)
+    requires { ⌜ Chosen (now u) n (now cols) (now scale) (length (now acc)) × (length (now g) ≡ length (now cols)) × (signs ≡ true → AllSigns (now u) n (now cols)) ⌝ }
     ensures { λ _. ⌜ now (acc .exit) ≡ times plusZero (entryOf (now (u .entry)) n (now (cols .entry)) (now (scale .entry))) (length (now (cols .entry))) (length (now (acc .entry))) (now (g .entry)) ⌝ }
 {
     clear(&mut acc[..]);
@@ -190,7 +283,7 @@ pub fn times_into(acc: &mut [f64], u: &[f64], n: usize, cols: &[u32], scale: &[f
     while p < cols.len() {
         let q = next_live(scale, g, p + 1);
         if q < cols.len() {
-            add_two_at(&mut acc[..], u, n, cols, scale, g, p, q);
+            add_two_at(&mut acc[..], u, n, cols, scale, g, p, q, signs);
             p = next_live(scale, g, q + 1);
         } else {
             add_one_at(&mut acc[..], u, n, cols, scale, g, p);

@@ -30,3 +30,4 @@ pub mod RootDigits
 pub mod RootGuess
 pub mod RootCases
 pub mod RootNearest
+pub mod Negation

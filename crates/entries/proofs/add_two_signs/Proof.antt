@@ -1,0 +1,134 @@
+-- `entries::add_two_signs` meets its contract: as `add_two`, with each product taken the other way round.
+use borrow.Author.Needs.{needs}
+use Prim.Native.Nat.{_-_, _≤_, _<_}
+use native.Mathlib.Omega.{arith}
+use mathlib.Core.Path.{sym, subst}
+use lib.Dec.{T}
+use lib.Ieee.{nan}
+use lib.ListN.{length}
+use Rattle.seq.proofs.Filling.{Filled, start, turn, still, whole}
+use Rattle.entries.specs.Entries.{scaledAt}
+use Rattle.entries.specs.Kernels.{plusTwo}
+use Rattle.entries.proofs.Reading.{scaled-own, scaled-under}
+use Rattle.entries.proofs.SignColumns.{signed-entry}
+use Rattle.entries.proofs.add_two_signs.Statement.{statement}
+use Rattle.entries.proofs.add_two_signs.Tie as tie
+
+abbrev Inv-loop : tie.InvT-loop
+Inv-loop acc₀ first s g second t h a b i₀ acc i = Filled (plusTwo (scaledAt first s) g (scaledAt second t) h acc₀) acc₀ i acc × (i ≤ length first)
+
+abbrev μ-loop : tie.MeasureT-loop
+μ-loop acc₀ first s g second t h a b i₀ acc i = length first - i
+
+loop-holds : tie.Need-loop-holds Inv-loop μ-loop
+loop-holds c = (start _ _, omega arith)
+
+mul-acc : tie.Need-mul-acc Inv-loop μ-loop
+mul-acc c = search needs
+
+slice-read-acc : tie.Need-slice-read-acc Inv-loop μ-loop
+slice-read-acc c = search needs
+
+mul-acc-2 : tie.Need-mul-acc-2 Inv-loop μ-loop
+mul-acc-2 c = search needs
+
+shared-slice-read-acc : tie.Need-shared-slice-read-acc Inv-loop μ-loop
+shared-slice-read-acc c = search needs
+
+mul-acc-3 : tie.Need-mul-acc-3 Inv-loop μ-loop
+mul-acc-3 c = search needs
+
+shared-slice-read-acc-2 : tie.Need-shared-slice-read-acc-2 Inv-loop μ-loop
+shared-slice-read-acc-2 c = search needs
+
+mul-acc-4 : tie.Need-mul-acc-4 Inv-loop μ-loop
+mul-acc-4 c = search needs
+
+slice-write-acc : tie.Need-slice-write-acc Inv-loop μ-loop
+slice-write-acc c = search needs
+
+add-i : tie.Need-add-i Inv-loop μ-loop
+add-i c = search needs
+
+loop-less : tie.Need-loop-less Inv-loop μ-loop
+loop-less c = search needs
+
+loop-again : tie.Need-loop-again Inv-loop μ-loop
+loop-again c =
+    let c4 = c .before .before .before .before in
+    let c5 = c4 .before in
+    let c6 = c5 .before in
+    let c8 = c6 .before .before in
+    let a = c8 .args in
+    let i = c4 .loop .i in
+    let v = c4 .loop .inv .0 in
+    let own = c .before .before .before .loop-test .taken in
+    let other : i < length (a .second .now) = omega (arith, own, c8 .pre .0) in
+    let one = signed-entry (a .first .now) i (a .s) (a .g) (c6 .shared-slice-known .given i) (subst T (sym (c8 .good .1 .1 .0 .1)) tt) (c8 .pre .3 .each i own) in
+    let two = signed-entry (a .second .now) i (a .t) (a .h) (c5 .shared-slice-known2 .given i) (subst T (sym (c8 .good .1 .1 .1 .1 .1 .0 .1)) tt) (c8 .pre .4 .each i other) in
+    (turn v (omega arith) (rw (still v (omega arith) nan, scaled-own _ _ _ own, scaled-own (a .second .now) (a .t) _ other, one, two)), omega arith)
+
+mul-acc-5 : tie.Need-mul-acc-5 Inv-loop μ-loop
+mul-acc-5 c = search needs
+
+slice-read-acc-2 : tie.Need-slice-read-acc-2 Inv-loop μ-loop
+slice-read-acc-2 c = search needs
+
+abs-requires : tie.Need-abs-requires Inv-loop μ-loop
+abs-requires c κs = search needs
+
+abs-requires-2 : tie.Need-abs-requires-2 Inv-loop μ-loop
+abs-requires-2 c κs = search needs
+
+mul-acc-6 : tie.Need-mul-acc-6 Inv-loop μ-loop
+mul-acc-6 c = search needs
+
+slice-write-acc-2 : tie.Need-slice-write-acc-2 Inv-loop μ-loop
+slice-write-acc-2 c = search needs
+
+same-length : tie.Need-same-length Inv-loop μ-loop
+same-length c = search needs
+
+returns : tie.Need-returns Inv-loop μ-loop
+returns c =
+    let c5 = c .before .before .before .before .before in
+    let c9 = c5 .before .before .before .before in
+    let v = c5 .loop .inv .0 in
+    let under = c .before .before .before .before .loop-test .left in
+    let other : length (c9 .args .second .now) ≤ c5 .loop .i = omega (arith, under, c9 .pre .0) in
+    whole (turn v (omega arith) (rw (still v (omega arith) nan, scaled-under _ _ _ under, scaled-under (c9 .args .second .now) (c9 .args .t) _ other, c .before .abs .ensures, c .abs2 .ensures))) (omega arith)
+
+same-length-2 : tie.Need-same-length-2 Inv-loop μ-loop
+same-length-2 c = search needs
+
+returns-2 : tie.Need-returns-2 Inv-loop μ-loop
+returns-2 c = whole (c .before .before .loop .inv .0) (omega arith)
+
+pub add-two-signs-spec : {M : Type 1} → statement M
+add-two-signs-spec =
+    tie.close
+    (tie.spec
+    Inv-loop
+    μ-loop
+    loop-holds
+    mul-acc
+    slice-read-acc
+    mul-acc-2
+    shared-slice-read-acc
+    mul-acc-3
+    shared-slice-read-acc-2
+    mul-acc-4
+    slice-write-acc
+    add-i
+    loop-less
+    loop-again
+    mul-acc-5
+    slice-read-acc-2
+    abs-requires
+    abs-requires-2
+    mul-acc-6
+    slice-write-acc-2
+    same-length
+    returns
+    same-length-2
+    returns-2)
