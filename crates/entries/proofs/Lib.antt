@@ -2,4 +2,3 @@
 pub mod Reading
 pub mod Skipping
 pub mod SignColumns
-pub mod Bounding

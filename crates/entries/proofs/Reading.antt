@@ -1,5 +1,4 @@
 -- Laws of an entry: within a column it is scaled, under it stands |s|; and one column more of a sum by rows.
-use borrow.Author.Tests.{lt-ltb, le-ltb}
 use Prim.Native.Nat.{ℕ, _+_, _*_, _≤_, _<_}
 use mathlib.Core.Path.{_≡_, sym, ap, _∙_}
 use mathlib.Core.List.{List}
@@ -12,15 +11,8 @@ use Rattle.seq.proofs.Filling.{length-tab, getD-tab, tab-cong}
 use Rattle.seq.proofs.Parts.{length-part, getD-part}
 use Rattle.seq.proofs.Summing.{sum-more}
 use Rattle.ieee.specs.Magnitude.{absOf}
-use Rattle.entries.specs.Entries.{scaledAt, entryOf}
-
--- an entry of the column's own
-pub scaled-own : (column : List Float) (s : Float) (i : ℕ) → i < length column → scaledAt column s i ≡ mul binary64 (at column i) s
-scaled-own column s i h = rw (lt-ltb i (length column) h)
-
--- the entry under them
-pub scaled-under : (column : List Float) (s : Float) (i : ℕ) → length column ≤ i → scaledAt column s i ≡ absOf s
-scaled-under column s i h = rw (le-ltb i (length column) h)
+use Rattle.columns.proofs.Scaled.{scaled-own, scaled-under}
+use Rattle.entries.specs.Entries.{entryOf}
 
 module _ (u : List Float) (n : ℕ) (cols : List ℕ) (scale : List Float) (p i : ℕ) (inside : getD cols p 0 * n + n ≤ length u) where
   abbrev column : List Float

@@ -19,7 +19,8 @@ use Rattle.ieee.specs.Flat.{isZero}
 use Rattle.ieee.proofs.Zeros.{plus-nothing, sum-fits, sum-never-minus, nonzero-not-zero}
 use Rattle.ieee.proofs.Skips.{mul-by-zero}
 use Rattle.entries.specs.Entries.{entryOf, Chosen}
-use Rattle.entries.specs.Kernels.{plusAt, plusTwo, Passed}
+use Rattle.columns.specs.Kernels.{plusAt, plusTwo}
+use Rattle.entries.specs.Passed.{Passed}
 use Rattle.entries.specs.Rows.{times}
 
 -- terms that are zeros add nothing

@@ -2,18 +2,13 @@
 use Prim.Native.Nat.{ℕ, _+_, _*_, _≤_, _<_}
 use mathlib.Core.Path.{_≡_}
 use mathlib.Core.List.{List}
-use lib.Dec.{T, ltb}
+use lib.Dec.{T}
 use lib.ListN.{length, getD}
-use lib.Ieee.{Float, binary64, mul}
+use lib.Ieee.{Float}
 use lib.Ieee.Scale.{finite}
-use Rattle.seq.specs.Choice.{pick}
 use Rattle.seq.specs.Lists.{part}
 use Rattle.seq.specs.Sums.{at}
-use Rattle.ieee.specs.Magnitude.{absOf}
-
--- entry i of a column that is scaled by s: under its own entries stands |s|
-abbrev pub scaledAt : List Float → Float → ℕ → Float
-scaledAt column s i = pick (ltb i (length column)) (mul binary64 (at column i) s) (absOf s)
+use Rattle.columns.specs.Columns.{scaledAt}
 
 -- column p: the n entries of the matrix u that the p-th of cols names, scaled by the p-th of scale
 abbrev pub entryOf : List Float → ℕ → List ℕ → List Float → ℕ → ℕ → Float

@@ -1,5 +1,5 @@
--- A matrix by its entries: how one is read, what a column does to a vector over the rows, and the rows in order.
+-- A matrix by its entries: how one is read, its rows, and the columns that may be left out or are of signs.
 pub mod Rows
 pub mod Entries
-pub mod Kernels
+pub mod Passed
 pub mod Signs

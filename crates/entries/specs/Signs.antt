@@ -1,21 +1,10 @@
--- Columns whose entries are 1.0 and -1.0, as hypotheses that vote have them.
+-- Chosen columns whose entries are 1.0 and -1.0, as hypotheses that vote have them.
 use Prim.Native.Nat.{ℕ, _*_, _<_}
-use mathlib.Core.Bool.{Bool}
 use mathlib.Core.List.{List}
-use lib.Dec.{T}
 use lib.ListN.{length, getD}
-use lib.Ieee.{Float, eq, binary64, ofBits}
+use lib.Ieee.{Float}
 use Rattle.seq.specs.Lists.{part}
-use Rattle.seq.specs.Sums.{at}
-use Rattle.ieee.specs.Magnitude.{absOf}
-
--- entry i has the magnitude of 1.0
-abbrev pub isSign : List Float → ℕ → Bool
-isSign column i = eq (absOf (at column i)) (ofBits binary64 0x3FF0_0000_0000_0000)
-
--- every entry of a column does
-pub record OfSigns (column : List Float) : Type 0 where
-  pub each : (i : ℕ) → i < length column → T (isSign column i)
+use Rattle.columns.specs.Signs.{OfSigns}
 
 -- every entry of the columns of n rows that cols names does
 pub record AllSigns (u : List Float) (n : ℕ) (cols : List ℕ) : Type 0 where

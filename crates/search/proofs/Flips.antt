@@ -11,7 +11,7 @@ use Rattle.seq.specs.Choice.{pick}
 use Rattle.seq.specs.Lists.{tabulate}
 use Rattle.seq.specs.Sums.{at}
 use Rattle.linear.specs.Vectors.{maxAbsTo, maxAbsOf}
-use Rattle.entries.specs.Kernels.{lessAt}
+use Rattle.columns.specs.Kernels.{lessAt}
 use Rattle.direction.specs.Constants.{two, improvement}
 use Rattle.search.specs.Search.{Search, improves, flipped, sweepTo, sweptOf, searchTo, searched}
 use Rattle.search.specs.Searching.{searchOf, Tried, Swept}

@@ -1,6 +1,6 @@
 // Local search: single coordinates are flipped while that lowers the largest magnitude of A x.
-use entries::less_column;
-use entries::stays_below;
+use columns::less_column;
+use columns::stays_below;
 use linear::max_abs;
 ghost use mathlib.Core.Path.{_≡_};
 ghost use Prim.Native.Nat.{_<_};

@@ -3,7 +3,7 @@ use borrow.Author.Needs.{needs}
 use Prim.Native.Nat.{_-_}
 use native.Mathlib.Omega.{arith}
 use lib.ListN.{length}
-use Rattle.entries.specs.Kernels.{Passed}
+use Rattle.entries.specs.Passed.{Passed}
 use Rattle.entries.proofs.Skipping.{passed-none, passed-more}
 use Rattle.entries.proofs.next_live.Statement.{statement}
 use Rattle.entries.proofs.next_live.Tie as tie

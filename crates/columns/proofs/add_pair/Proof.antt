@@ -1,7 +1,7 @@
--- `entries::add_pair` meets its contract: both ways give the same.
+-- `columns::add_pair` meets its contract: both ways give the same.
 use borrow.Author.Needs.{needs}
-use Rattle.entries.proofs.add_pair.Statement.{statement}
-use Rattle.entries.proofs.add_pair.Tie as tie
+use Rattle.columns.proofs.add_pair.Statement.{statement}
+use Rattle.columns.proofs.add_pair.Tie as tie
 
 add-two-signs-requires : tie.Need-add-two-signs-requires
 add-two-signs-requires c κs =

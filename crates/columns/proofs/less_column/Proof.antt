@@ -1,15 +1,15 @@
--- `entries::less_column` meets its contract: the loop fills the rows of the column, and the one under them takes |s|.
+-- `columns::less_column` meets its contract: the loop fills the rows of the column, and the one under them takes |s|.
 use borrow.Author.Needs.{needs}
 use Prim.Native.Nat.{_-_, _≤_}
 use native.Mathlib.Omega.{arith}
 use lib.Ieee.{nan}
 use lib.ListN.{length}
 use Rattle.seq.proofs.Filling.{Filled, start, turn, still, whole}
-use Rattle.entries.specs.Entries.{scaledAt}
-use Rattle.entries.specs.Kernels.{lessAt}
-use Rattle.entries.proofs.Reading.{scaled-own, scaled-under}
-use Rattle.entries.proofs.less_column.Statement.{statement}
-use Rattle.entries.proofs.less_column.Tie as tie
+use Rattle.columns.specs.Columns.{scaledAt}
+use Rattle.columns.specs.Kernels.{lessAt}
+use Rattle.columns.proofs.Scaled.{scaled-own, scaled-under}
+use Rattle.columns.proofs.less_column.Statement.{statement}
+use Rattle.columns.proofs.less_column.Tie as tie
 
 abbrev Inv-loop : tie.InvT-loop
 Inv-loop ax₀ column s t i₀ ax i = Filled (lessAt (scaledAt column s) t ax₀) ax₀ i ax × (i ≤ length column)

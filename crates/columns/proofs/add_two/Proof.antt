@@ -1,24 +1,21 @@
--- `entries::add_two_signs` meets its contract: as `add_two`, with each product taken the other way round.
+-- `columns::add_two` meets its contract: the loop fills the rows of the columns, and the one under them takes the scales' magnitudes.
 use borrow.Author.Needs.{needs}
 use Prim.Native.Nat.{_-_, _≤_, _<_}
 use native.Mathlib.Omega.{arith}
-use mathlib.Core.Path.{sym, subst}
-use lib.Dec.{T}
 use lib.Ieee.{nan}
 use lib.ListN.{length}
 use Rattle.seq.proofs.Filling.{Filled, start, turn, still, whole}
-use Rattle.entries.specs.Entries.{scaledAt}
-use Rattle.entries.specs.Kernels.{plusTwo}
-use Rattle.entries.proofs.Reading.{scaled-own, scaled-under}
-use Rattle.entries.proofs.SignColumns.{signed-entry}
-use Rattle.entries.proofs.add_two_signs.Statement.{statement}
-use Rattle.entries.proofs.add_two_signs.Tie as tie
+use Rattle.columns.specs.Columns.{scaledAt}
+use Rattle.columns.specs.Kernels.{plusTwo}
+use Rattle.columns.proofs.Scaled.{scaled-own, scaled-under}
+use Rattle.columns.proofs.add_two.Statement.{statement}
+use Rattle.columns.proofs.add_two.Tie as tie
 
 abbrev Inv-loop : tie.InvT-loop
-Inv-loop acc₀ first s g second t h a b i₀ acc i = Filled (plusTwo (scaledAt first s) g (scaledAt second t) h acc₀) acc₀ i acc × (i ≤ length first)
+Inv-loop acc₀ first s g second t h i₀ acc i = Filled (plusTwo (scaledAt first s) g (scaledAt second t) h acc₀) acc₀ i acc × (i ≤ length first)
 
 abbrev μ-loop : tie.MeasureT-loop
-μ-loop acc₀ first s g second t h a b i₀ acc i = length first - i
+μ-loop acc₀ first s g second t h i₀ acc i = length first - i
 
 loop-holds : tie.Need-loop-holds Inv-loop μ-loop
 loop-holds c = (start _ _, omega arith)
@@ -56,17 +53,11 @@ loop-less c = search needs
 loop-again : tie.Need-loop-again Inv-loop μ-loop
 loop-again c =
     let c4 = c .before .before .before .before in
-    let c5 = c4 .before in
-    let c6 = c5 .before in
-    let c8 = c6 .before .before in
-    let a = c8 .args in
-    let i = c4 .loop .i in
+    let c8 = c4 .before .before .before .before in
     let v = c4 .loop .inv .0 in
     let own = c .before .before .before .loop-test .taken in
-    let other : i < length (a .second .now) = omega (arith, own, c8 .pre .0) in
-    let one = signed-entry (a .first .now) i (a .s) (a .g) (c6 .shared-slice-known .given i) (subst T (sym (c8 .good .1 .1 .0 .1)) tt) (c8 .pre .3 .each i own) in
-    let two = signed-entry (a .second .now) i (a .t) (a .h) (c5 .shared-slice-known2 .given i) (subst T (sym (c8 .good .1 .1 .1 .1 .1 .0 .1)) tt) (c8 .pre .4 .each i other) in
-    (turn v (omega arith) (rw (still v (omega arith) nan, scaled-own _ _ _ own, scaled-own (a .second .now) (a .t) _ other, one, two)), omega arith)
+    let other : c4 .loop .i < length (c8 .args .second .now) = omega (arith, own, c8 .pre .0) in
+    (turn v (omega arith) (rw (still v (omega arith) nan, scaled-own _ _ _ own, scaled-own (c8 .args .second .now) (c8 .args .t) _ other)), omega arith)
 
 mul-acc-5 : tie.Need-mul-acc-5 Inv-loop μ-loop
 mul-acc-5 c = search needs
@@ -104,8 +95,8 @@ same-length-2 c = search needs
 returns-2 : tie.Need-returns-2 Inv-loop μ-loop
 returns-2 c = whole (c .before .before .loop .inv .0) (omega arith)
 
-pub add-two-signs-spec : {M : Type 1} → statement M
-add-two-signs-spec =
+pub add-two-spec : {M : Type 1} → statement M
+add-two-spec =
     tie.close
     (tie.spec
     Inv-loop

@@ -1,4 +1,4 @@
--- `entries::stays_below` meets its contract: while the loop runs the largest magnitude of the rows so far is below the bound, and the first row that is not settles it.
+-- `columns::stays_below` meets its contract: while the loop runs the largest magnitude of the rows so far is below the bound, and the first row that is not settles it.
 use borrow.Author.Needs.{needs}
 use Prim.Native.Nat.{_+_, _-_, _≤_}
 use mathlib.Core.Path.{_≡_, sym, subst, _∙_}
@@ -10,13 +10,13 @@ use lib.Ieee.{binary64, lt, le}
 use lib.Ieee.Fits.{sub-fits}
 use Rattle.ieee.specs.Magnitude.{absOf}
 use Rattle.linear.specs.Vectors.{maxAbsTo}
-use Rattle.entries.specs.Entries.{scaledAt}
-use Rattle.entries.specs.Kernels.{lessAt}
-use Rattle.entries.proofs.Reading.{scaled-own, scaled-under}
-use Rattle.entries.proofs.Bounding.{not-below, never-below, still-below, last-below}
+use Rattle.columns.specs.Columns.{scaledAt}
+use Rattle.columns.specs.Kernels.{lessAt}
+use Rattle.columns.proofs.Scaled.{scaled-own, scaled-under}
+use Rattle.columns.proofs.Bounding.{not-below, never-below, still-below, last-below}
 use lib.ListN.{length}
-use Rattle.entries.proofs.stays_below.Statement.{statement}
-use Rattle.entries.proofs.stays_below.Tie as tie
+use Rattle.columns.proofs.stays_below.Statement.{statement}
+use Rattle.columns.proofs.stays_below.Tie as tie
 
 abbrev Inv-loop : tie.InvT-loop
 Inv-loop ax column s t bound i₀ i = (i ≤ length column) × (lt (maxAbsTo (lessAt (scaledAt column s) t ax) i) bound ≡ true)

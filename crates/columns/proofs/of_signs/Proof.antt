@@ -1,14 +1,14 @@
--- `entries::of_signs` meets its contract: after i turns `all` says whether the first i entries are.
+-- `columns::of_signs` meets its contract: after i turns `all` says whether the first i entries are.
 use borrow.Author.Needs.{needs}
 use Prim.Native.Nat.{_-_, _≤_}
 use mathlib.Core.Path.{_≡_, refl}
 use native.Mathlib.Omega.{arith}
 use lib.ListN.{length}
 use Rattle.limits.specs.Limits.{allTo}
-use Rattle.entries.specs.Signs.{isSign}
-use Rattle.entries.proofs.SignColumns.{all-more}
-use Rattle.entries.proofs.of_signs.Statement.{statement}
-use Rattle.entries.proofs.of_signs.Tie as tie
+use Rattle.columns.specs.Signs.{isSign}
+use Rattle.columns.proofs.SignColumns.{all-more}
+use Rattle.columns.proofs.of_signs.Statement.{statement}
+use Rattle.columns.proofs.of_signs.Tie as tie
 
 abbrev Inv-loop : tie.InvT-loop
 Inv-loop column all₀ i₀ all i = (all ≡ allTo (isSign column) i) × (i ≤ length column)

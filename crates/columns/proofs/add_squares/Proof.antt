@@ -1,15 +1,15 @@
--- `entries::add_squares` meets its contract: the loop fills the rows of the column, and the one under them takes |s|.
+-- `columns::add_squares` meets its contract: the loop fills the rows of the column, and the one under them takes |s|.
 use borrow.Author.Needs.{needs}
 use Prim.Native.Nat.{_-_, _≤_}
 use native.Mathlib.Omega.{arith}
 use lib.Ieee.{nan}
 use lib.ListN.{length}
 use Rattle.seq.proofs.Filling.{Filled, start, turn, still, whole}
-use Rattle.entries.specs.Entries.{scaledAt}
-use Rattle.entries.specs.Kernels.{squaredAt}
-use Rattle.entries.proofs.Reading.{scaled-own, scaled-under}
-use Rattle.entries.proofs.add_squares.Statement.{statement}
-use Rattle.entries.proofs.add_squares.Tie as tie
+use Rattle.columns.specs.Columns.{scaledAt}
+use Rattle.columns.specs.Kernels.{squaredAt}
+use Rattle.columns.proofs.Scaled.{scaled-own, scaled-under}
+use Rattle.columns.proofs.add_squares.Statement.{statement}
+use Rattle.columns.proofs.add_squares.Tie as tie
 
 abbrev Inv-loop : tie.InvT-loop
 Inv-loop acc₀ column s i₀ acc i = Filled (squaredAt (scaledAt column s) acc₀) acc₀ i acc × (i ≤ length column)

@@ -1,0 +1,4 @@
+-- Laws of a column, for every crate above.
+pub mod Scaled
+pub mod SignColumns
+pub mod Bounding

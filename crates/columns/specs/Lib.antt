@@ -1,0 +1,4 @@
+-- What a column does to a vector over the rows.
+pub mod Columns
+pub mod Kernels
+pub mod Signs

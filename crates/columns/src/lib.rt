@@ -1,0 +1,147 @@
+// What a column does to a vector over the rows. A column is scaled by s, and |s| stands under it where the vector has one more row.
+use ieee::abs;
+ghost use mathlib.Core.Path.{_≡_};
+ghost use mathlib.Core.Bool.{true};
+ghost use Prim.Native.Nat.{_≤_, _+_};
+ghost use lib.ListN.{length};
+ghost use lib.Ieee.{lt};
+ghost use Rattle.seq.specs.Lists.{tabulate};
+ghost use Rattle.linear.specs.Vectors.{maxAbsTo};
+ghost use Rattle.limits.specs.Limits.{allTo};
+ghost use Rattle.columns.specs.Columns.{scaledAt};
+ghost use Rattle.columns.specs.Kernels.{plusAt, plusTwo, squaredAt, lessAt};
+ghost use Rattle.columns.specs.Signs.{isSign, OfSigns};
+
+// acc + g times the column.
+pub fn add_column(acc: &mut [f64], column: &[f64], s: f64, g: f64)
+    requires { ⌜ (length (now column) ≤ length (now acc)) × (length (now acc) ≤ length (now column) + 1) ⌝ }
+    ensures { λ _. ⌜ now (acc .exit) ≡ tabulate (plusAt (scaledAt (now (column .entry)) s) g (now (acc .entry))) (length (now (acc .entry))) ⌝ }
+{
+    let mut i = 0usize;
+    while i < column.len() {
+        acc[i] = acc[i] + (column[i] * s) * g;
+        i += 1;
+    }
+    if i < acc.len() {
+        acc[i] = acc[i] + abs(s) * g;
+    }
+}
+
+// acc + the column's squares.
+pub fn add_squares(acc: &mut [f64], column: &[f64], s: f64)
+    requires { ⌜ (length (now column) ≤ length (now acc)) × (length (now acc) ≤ length (now column) + 1) ⌝ }
+    ensures { λ _. ⌜ now (acc .exit) ≡ tabulate (squaredAt (scaledAt (now (column .entry)) s) (now (acc .entry))) (length (now (acc .entry))) ⌝ }
+{
+    let mut i = 0usize;
+    while i < column.len() {
+        let e = column[i] * s;
+        acc[i] = acc[i] + e * e;
+        i += 1;
+    }
+    if i < acc.len() {
+        let e = abs(s);
+        acc[i] = acc[i] + e * e;
+    }
+}
+
+// Whether the largest magnitude of ax - t times the column is below a bound. The first row that is not settles it.
+pub fn stays_below(ax: &[f64], column: &[f64], s: f64, t: f64, bound: f64) -> bool
+    requires { ⌜ (length (now column) ≤ length (now ax)) × (length (now ax) ≤ length (now column) + 1) ⌝ }
+    ensures { λ r. ⌜ r ≡ lt (maxAbsTo (lessAt (scaledAt (now (column .entry)) s) t (now (ax .entry))) (length (now (ax .entry)))) bound ⌝ }
+{
+    if !(0.0 < bound) {
+        return false;
+    }
+    let mut i = 0usize;
+    while i < column.len() {
+        if abs(ax[i] - t * (column[i] * s)) >= bound {
+            return false;
+        }
+        i += 1;
+    }
+    if i < ax.len() {
+        return !(abs(ax[i] - t * abs(s)) >= bound);
+    }
+    true
+}
+
+// ax - t times the column.
+pub fn less_column(ax: &mut [f64], column: &[f64], s: f64, t: f64)
+    requires { ⌜ (length (now column) ≤ length (now ax)) × (length (now ax) ≤ length (now column) + 1) ⌝ }
+    ensures { λ _. ⌜ now (ax .exit) ≡ tabulate (lessAt (scaledAt (now (column .entry)) s) t (now (ax .entry))) (length (now (ax .entry))) ⌝ }
+{
+    let mut i = 0usize;
+    while i < column.len() {
+        ax[i] = ax[i] - t * (column[i] * s);
+        i += 1;
+    }
+    if i < ax.len() {
+        ax[i] = ax[i] - t * abs(s);
+    }
+}
+
+// acc + two columns, each times its g, in order.
+fn add_two(acc: &mut [f64], first: &[f64], s: f64, g: f64, second: &[f64], t: f64, h: f64)
+    requires { ⌜ (length (now second) ≡ length (now first)) × (length (now first) ≤ length (now acc)) × (length (now acc) ≤ length (now first) + 1) ⌝ }
+    ensures { λ _. ⌜ now (acc .exit) ≡ tabulate (plusTwo (scaledAt (now (first .entry)) s) g (scaledAt (now (second .entry)) t) h (now (acc .entry))) (length (now (acc .entry))) ⌝ }
+{
+    let mut i = 0usize;
+    while i < first.len() {
+        acc[i] = (acc[i] + (first[i] * s) * g) + (second[i] * t) * h;
+        i += 1;
+    }
+    if i < acc.len() {
+        acc[i] = (acc[i] + abs(s) * g) + abs(t) * h;
+    }
+}
+
+// The same of two columns whose entries are 1.0 and -1.0, by one product an entry: x·s·g is then x·(s·g).
+fn add_two_signs(acc: &mut [f64], first: &[f64], s: f64, g: f64, second: &[f64], t: f64, h: f64)
+    requires { ⌜ (length (now second) ≡ length (now first)) × (length (now first) ≤ length (now acc)) × (length (now acc) ≤ length (now first) + 1) × OfSigns (now first) × OfSigns (now second) ⌝ }
+    ensures { λ _. ⌜ now (acc .exit) ≡ tabulate (plusTwo (scaledAt (now (first .entry)) s) g (scaledAt (now (second .entry)) t) h (now (acc .entry))) (length (now (acc .entry))) ⌝ }
+{
+    let a = s * g;
+    let b = t * h;
+    let mut i = 0usize;
+    while i < first.len() {
+        acc[i] = (acc[i] + first[i] * a) + second[i] * b;
+        i += 1;
+    }
+    if i < acc.len() {
+        acc[i] = (acc[i] + abs(s) * g) + abs(t) * h;
+    }
+}
+
+// The one or the other.
+pub fn add_pair(
+    acc: &mut [f64],
+    first: &[f64],
+    s: f64,
+    g: f64,
+    second: &[f64],
+    t: f64,
+    h: f64,
+    signs: bool,
+)
+    requires { ⌜ (length (now second) ≡ length (now first)) × (length (now first) ≤ length (now acc)) × (length (now acc) ≤ length (now first) + 1) × (signs ≡ true → OfSigns (now first) × OfSigns (now second)) ⌝ }
+    ensures { λ _. ⌜ now (acc .exit) ≡ tabulate (plusTwo (scaledAt (now (first .entry)) s) g (scaledAt (now (second .entry)) t) h (now (acc .entry))) (length (now (acc .entry))) ⌝ }
+{
+    if signs {
+        add_two_signs(acc, first, s, g, second, t, h);
+    } else {
+        add_two(acc, first, s, g, second, t, h);
+    }
+}
+
+// Whether every entry of a column is 1.0 or -1.0.
+pub fn of_signs(column: &[f64]) -> bool
+    ensures { λ r. ⌜ r ≡ allTo (isSign (now (column .entry))) (length (now (column .entry))) ⌝ }
+{
+    let mut all = true;
+    let mut i = 0usize;
+    while i < column.len() {
+        all = all & (abs(column[i]) == 1.0);
+        i += 1;
+    }
+    all
+}
