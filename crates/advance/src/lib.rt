@@ -7,14 +7,12 @@ use entries::times_into;
 use ieee::is_finite;
 use linear::dot;
 ghost use mathlib.Core.Path.{_≡_};
-ghost use mathlib.Core.Bool.{true};
 ghost use Prim.Native.Nat.{_≤_, _+_};
 ghost use lib.ListN.{length};
 ghost use Rattle.entries.specs.Entries.{entryOf, Chosen};
-ghost use Rattle.entries.specs.Signs.{AllSigns};
 ghost use Rattle.advance.specs.Advancing.{Downhill, Advanced};
 
-// A g beside A x, both turned where the direction leads uphill. If signs is set, every entry is 1.0 or -1.0.
+// A g beside A x, both turned where the direction leads uphill.
 fn turn_downhill(
     num: &mut [f64],
     rows: usize,
@@ -23,13 +21,12 @@ fn turn_downhill(
     cols: &[u32],
     scale: &[f64],
     g: &mut [f64],
-    signs: bool,
 )
-    requires { ⌜ Chosen (now u) n (now cols) (now scale) rows × (length (now g) ≡ length (now cols)) × (rows + rows ≤ length (now num)) × (signs ≡ true → AllSigns (now u) n (now cols)) ⌝ }
+    requires { ⌜ Chosen (now u) n (now cols) (now scale) rows × (length (now g) ≡ length (now cols)) × (rows + rows ≤ length (now num)) ⌝ }
     ensures { λ _. ⌜ Downhill (entryOf (now (u .entry)) n (now (cols .entry)) (now (scale .entry))) rows (now (num .entry)) (now (g .entry)) (now (num .exit)) (now (g .exit)) ⌝ }
 {
     let to = rows + rows;
-    times_into(&mut num[rows..to], u, n, cols, scale, &g[..], signs);
+    times_into(&mut num[rows..to], u, n, cols, scale, &g[..]);
     let all = &num[..];
     let uphill = dot(&all[0..rows], &all[rows..to]) > 0.0;
     turn_if(&mut g[..], uphill);
@@ -47,12 +44,11 @@ pub fn advance(
     cols: &[u32],
     scale: &[f64],
     g: &mut [f64],
-    signs: bool,
 ) -> bool
-    requires { ⌜ Chosen (now u) n (now cols) (now scale) rows × (length (now g) ≡ length (now cols)) × (length (now x) ≡ length (now cols)) × (length (now free) ≡ length (now cols)) × (rows + rows ≤ length (now num)) × (signs ≡ true → AllSigns (now u) n (now cols)) ⌝ }
+    requires { ⌜ Chosen (now u) n (now cols) (now scale) rows × (length (now g) ≡ length (now cols)) × (length (now x) ≡ length (now cols)) × (length (now free) ≡ length (now cols)) × (rows + rows ≤ length (now num)) ⌝ }
     ensures { λ r. ⌜ Advanced (entryOf (now (u .entry)) n (now (cols .entry)) (now (scale .entry))) rows (now (num .entry)) (now (x .entry)) (now (free .entry)) (now (g .entry)) r (now (num .exit)) (now (x .exit)) ⌝ }
 {
-    turn_downhill(num, rows, u, n, cols, scale, &mut g[..], signs);
+    turn_downhill(num, rows, u, n, cols, scale, &mut g[..]);
     let t = reach(&x[..], &g[..], free);
     if !is_finite(t) {
         return false;

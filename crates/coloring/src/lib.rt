@@ -85,7 +85,7 @@ fn search_anew(ax: &mut [f64], x: &mut [f64], u: &[f64], n: usize, cols: &[u32],
     requires { ⌜ Chosen (now u) n (now cols) (now scale) (length (now ax)) × (length (now x) ≡ length (now cols)) ⌝ }
     ensures { λ _. ⌜ now (x .exit) ≡ searched (entryOf (now (u .entry)) n (now (cols .entry)) (now (scale .entry))) (length (now (cols .entry))) (now (x .entry)) (times plusZero (entryOf (now (u .entry)) n (now (cols .entry)) (now (scale .entry))) (length (now (cols .entry))) (length (now (ax .entry))) (now (x .entry))) ⌝ }
 {
-    times_into(&mut ax[..], u, n, cols, scale, &x[..], false);
+    times_into(&mut ax[..], u, n, cols, scale, &x[..]);
     local_search(ax, x, u, n, cols, scale);
 }
 

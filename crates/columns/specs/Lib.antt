@@ -1,4 +1,3 @@
 -- What a column does to a vector over the rows.
 pub mod Columns
 pub mod Kernels
-pub mod Signs

@@ -1,16 +1,13 @@
 // What a column does to a vector over the rows. A column is scaled by s, and |s| stands under it where the vector has one more row.
 use ieee::abs;
 ghost use mathlib.Core.Path.{_≡_};
-ghost use mathlib.Core.Bool.{true};
 ghost use Prim.Native.Nat.{_≤_, _+_};
 ghost use lib.ListN.{length};
 ghost use lib.Ieee.{lt};
 ghost use Rattle.seq.specs.Lists.{tabulate};
 ghost use Rattle.linear.specs.Vectors.{maxAbsTo};
-ghost use Rattle.limits.specs.Limits.{allTo};
 ghost use Rattle.columns.specs.Columns.{scaledAt};
 ghost use Rattle.columns.specs.Kernels.{plusAt, plusTwo, squaredAt, lessAt};
-ghost use Rattle.columns.specs.Signs.{isSign, OfSigns};
 
 // acc + g times the column.
 pub fn add_column(acc: &mut [f64], column: &[f64], s: f64, g: f64)
@@ -81,7 +78,7 @@ pub fn less_column(ax: &mut [f64], column: &[f64], s: f64, t: f64)
 }
 
 // acc + two columns, each times its g, in order.
-fn add_two(acc: &mut [f64], first: &[f64], s: f64, g: f64, second: &[f64], t: f64, h: f64)
+pub fn add_two(acc: &mut [f64], first: &[f64], s: f64, g: f64, second: &[f64], t: f64, h: f64)
     requires { ⌜ (length (now second) ≡ length (now first)) × (length (now first) ≤ length (now acc)) × (length (now acc) ≤ length (now first) + 1) ⌝ }
     ensures { λ _. ⌜ now (acc .exit) ≡ tabulate (plusTwo (scaledAt (now (first .entry)) s) g (scaledAt (now (second .entry)) t) h (now (acc .entry))) (length (now (acc .entry))) ⌝ }
 {
@@ -93,55 +90,4 @@ fn add_two(acc: &mut [f64], first: &[f64], s: f64, g: f64, second: &[f64], t: f6
     if i < acc.len() {
         acc[i] = (acc[i] + abs(s) * g) + abs(t) * h;
     }
-}
-
-// The same of two columns whose entries are 1.0 and -1.0, by one product an entry: x·s·g is then x·(s·g).
-fn add_two_signs(acc: &mut [f64], first: &[f64], s: f64, g: f64, second: &[f64], t: f64, h: f64)
-    requires { ⌜ (length (now second) ≡ length (now first)) × (length (now first) ≤ length (now acc)) × (length (now acc) ≤ length (now first) + 1) × OfSigns (now first) × OfSigns (now second) ⌝ }
-    ensures { λ _. ⌜ now (acc .exit) ≡ tabulate (plusTwo (scaledAt (now (first .entry)) s) g (scaledAt (now (second .entry)) t) h (now (acc .entry))) (length (now (acc .entry))) ⌝ }
-{
-    let a = s * g;
-    let b = t * h;
-    let mut i = 0usize;
-    while i < first.len() {
-        acc[i] = (acc[i] + first[i] * a) + second[i] * b;
-        i += 1;
-    }
-    if i < acc.len() {
-        acc[i] = (acc[i] + abs(s) * g) + abs(t) * h;
-    }
-}
-
-// The one or the other.
-pub fn add_pair(
-    acc: &mut [f64],
-    first: &[f64],
-    s: f64,
-    g: f64,
-    second: &[f64],
-    t: f64,
-    h: f64,
-    signs: bool,
-)
-    requires { ⌜ (length (now second) ≡ length (now first)) × (length (now first) ≤ length (now acc)) × (length (now acc) ≤ length (now first) + 1) × (signs ≡ true → OfSigns (now first) × OfSigns (now second)) ⌝ }
-    ensures { λ _. ⌜ now (acc .exit) ≡ tabulate (plusTwo (scaledAt (now (first .entry)) s) g (scaledAt (now (second .entry)) t) h (now (acc .entry))) (length (now (acc .entry))) ⌝ }
-{
-    if signs {
-        add_two_signs(acc, first, s, g, second, t, h);
-    } else {
-        add_two(acc, first, s, g, second, t, h);
-    }
-}
-
-// Whether every entry of a column is 1.0 or -1.0.
-pub fn of_signs(column: &[f64]) -> bool
-    ensures { λ r. ⌜ r ≡ allTo (isSign (now (column .entry))) (length (now (column .entry))) ⌝ }
-{
-    let mut all = true;
-    let mut i = 0usize;
-    while i < column.len() {
-        all = all & (abs(column[i]) == 1.0);
-        i += 1;
-    }
-    all
 }

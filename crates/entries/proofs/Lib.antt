@@ -1,4 +1,3 @@
 -- Laws of the entries, for every crate above.
 pub mod Reading
 pub mod Skipping
-pub mod SignColumns

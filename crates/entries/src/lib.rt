@@ -1,22 +1,19 @@
 // How an entry is read: every function that touches the matrix. A column is chosen and scaled; what it then does to a vector is in the crate columns.
 use columns::add_column;
-use columns::add_pair;
 use columns::add_squares;
-use columns::of_signs;
+use columns::add_two;
 use ieee::abs;
 use ieee::is_finite;
 use seq::clear;
 ghost use mathlib.Core.Path.{_≡_};
-ghost use Prim.Native.Nat.{ℕ, _≤_, _<_, _+_, _*_};
-ghost use mathlib.Core.Bool.{true};
-ghost use lib.ListN.{length, getD};
+ghost use Prim.Native.Nat.{_<_};
+ghost use lib.ListN.{length};
 ghost use Rattle.seq.specs.Lists.{tabulate};
 ghost use Rattle.seq.specs.Sums.{plusZero, at};
 ghost use Rattle.entries.specs.Rows.{rowOf, rowNorms, times};
 ghost use Rattle.entries.specs.Entries.{entryOf, Chosen};
 ghost use Rattle.columns.specs.Kernels.{plusAt, plusTwo};
 ghost use Rattle.entries.specs.Passed.{Passed};
-ghost use Rattle.entries.specs.Signs.{AllSigns};
 
 // The entry at row i of column p.
 fn entry(u: &[f64], n: usize, cols: &[u32], scale: &[f64], p: usize, i: usize) -> f64
@@ -42,26 +39,6 @@ pub fn row_into(v: &mut [f64], u: &[f64], n: usize, cols: &[u32], scale: &[f64],
         v[p] = entry(u, n, cols, scale, p, i);
         p += 1;
     }
-}
-
-// Whether every entry of the chosen columns is 1.0 or -1.0. Of few columns it says no: a phase on them makes too few steps to gain by it.
-pub fn all_signs(u: &[f64], n: usize, cols: &[u32]) -> bool
-    requires { ⌜ ((p : ℕ) → p < length (now cols) → getD (now cols) p 0 * n + n ≤ length (now u)) ⌝ }
-    ensures { λ r. ⌜ (r ≡ true → AllSigns (now (u .entry)) n (now (cols .entry))) ⌝ }
-{
-    if cols.len() < 16 {
-        return false;
-    }
-    let mut p = 0usize;
-    while p < cols.len() {
-        let a = (cols[p] as usize) * n;
-        let e = a + n;
-        if !of_signs(&u[a..e]) {
-            return false;
-        }
-        p += 1;
-    }
-    true
 }
 
 // The first place from `from` on whose column may add something, or where the places end. Where g is 0.0 and the scale is finite, the
@@ -111,39 +88,20 @@ fn add_two_at(
     g: &[f64],
     p: usize,
     q: usize,
-    signs: bool,
 )
-    requires { ⌜ Chosen (now u) n (now cols) (now scale) (length (now acc)) × (length (now g) ≡ length (now cols)) × (p < length (now cols)) × (q < length (now cols)) × (signs ≡ true → AllSigns (now u) n (now cols)) ⌝ }
+    requires { ⌜ Chosen (now u) n (now cols) (now scale) (length (now acc)) × (length (now g) ≡ length (now cols)) × (p < length (now cols)) × (q < length (now cols)) ⌝ }
     ensures { λ _. ⌜ now (acc .exit) ≡ tabulate (plusTwo (entryOf (now (u .entry)) n (now (cols .entry)) (now (scale .entry)) p) (at (now (g .entry)) p) (entryOf (now (u .entry)) n (now (cols .entry)) (now (scale .entry)) q) (at (now (g .entry)) q) (now (acc .entry))) (length (now (acc .entry))) ⌝ }
 {
     let a = (cols[p] as usize) * n;
     let e = a + n;
     let b = (cols[q] as usize) * n;
     let f = b + n;
-    add_pair(
-        acc,
-        &u[a..e],
-        scale[p],
-        g[p],
-        &u[b..f],
-        scale[q],
-        g[q],
-        signs,
-    );
+    add_two(acc, &u[a..e], scale[p], g[p], &u[b..f], scale[q], g[q]);
 }
 
-// The matrix times g, two columns at a time, without those that add nothing; each row's sum is in the columns' order. If signs is set,
-// every entry is 1.0 or -1.0.
-pub fn times_into(
-    acc: &mut [f64],
-    u: &[f64],
-    n: usize,
-    cols: &[u32],
-    scale: &[f64],
-    g: &[f64],
-    signs: bool,
-)
-    requires { ⌜ Chosen (now u) n (now cols) (now scale) (length (now acc)) × (length (now g) ≡ length (now cols)) × (signs ≡ true → AllSigns (now u) n (now cols)) ⌝ }
+// The matrix times g, two columns at a time, without those that add nothing; each row's sum is in the columns' order.
+pub fn times_into(acc: &mut [f64], u: &[f64], n: usize, cols: &[u32], scale: &[f64], g: &[f64])
+    requires { ⌜ Chosen (now u) n (now cols) (now scale) (length (now acc)) × (length (now g) ≡ length (now cols)) ⌝ }
     ensures { λ _. ⌜ now (acc .exit) ≡ times plusZero (entryOf (now (u .entry)) n (now (cols .entry)) (now (scale .entry))) (length (now (cols .entry))) (length (now (acc .entry))) (now (g .entry)) ⌝ }
 {
     clear(&mut acc[..]);
@@ -151,7 +109,7 @@ pub fn times_into(
     while p < cols.len() {
         let q = next_live(scale, g, p + 1);
         if q < cols.len() {
-            add_two_at(&mut acc[..], u, n, cols, scale, g, p, q, signs);
+            add_two_at(&mut acc[..], u, n, cols, scale, g, p, q);
             p = next_live(scale, g, q + 1);
         } else {
             add_one_at(&mut acc[..], u, n, cols, scale, g, p);

@@ -30,4 +30,3 @@ pub mod RootDigits
 pub mod RootGuess
 pub mod RootCases
 pub mod RootNearest
-pub mod Negation

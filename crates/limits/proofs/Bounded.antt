@@ -20,7 +20,7 @@ both true t h = (refl, h)
 both false t h = absurd (false≢true h)
 
 -- what passes for all passes for each
-pub all-at : (f : ℕ → Bool) (k : ℕ) → allTo f k ≡ true → (j : ℕ) → j < k → T (f j)
+all-at : (f : ℕ → Bool) (k : ℕ) → allTo f k ≡ true → (j : ℕ) → j < k → T (f j)
 unfolding allTo
 all-at f zero h j l = absurd (omega arith)
 all-at f (suc k) h j l = go (both (allTo f k) (f k) h .1) (λ less. all-at f k (both (allTo f k) (f k) h .0) j less) (eq-or-lt-of-le (omega arith))

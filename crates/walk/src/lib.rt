@@ -4,19 +4,16 @@ use begin::begin;
 use direction::direct;
 use direction::draw_into;
 use draw::SplitMix64;
-use entries::all_signs;
 use freeze::Frozen;
 use freeze::freeze;
 use seq::fill_words;
 ghost use mathlib.Core.Path.{_≡_};
-ghost use mathlib.Core.Bool.{true};
 ghost use Prim.Native.Nat.{_≤_};
 ghost use lib.ListN.{length};
 ghost use Rattle.seq.specs.Sums.{plusZero};
 ghost use Rattle.begin.specs.Begin.{begun};
 ghost use Rattle.walk.specs.Walk.{stepOf, phaseOf};
 ghost use Rattle.entries.specs.Entries.{entryOf, Chosen};
-ghost use Rattle.entries.specs.Signs.{AllSigns};
 ghost use Rattle.freeze.specs.Held.{axIn, held, Roomy};
 ghost use Rattle.walk.specs.Walking.{StepHolds};
 
@@ -33,7 +30,7 @@ pub struct Went {
     pub at: Stand,
 }
 
-// One step. g and v are room for a direction and for a row. If signs is set, every entry is 1.0 or -1.0.
+// One step. g and v are room for a direction and for a row.
 fn step(
     num: &mut [f64],
     blocked: &mut [u32],
@@ -46,9 +43,8 @@ fn step(
     from: Stand,
     g: &mut [f64],
     v: &mut [f64],
-    signs: bool,
 ) -> Went
-    requires { ⌜ Chosen (now u) n (now cols) (now scale) (length (now blocked)) × Roomy (length (now cols)) (now num) (now blocked) (now x) (now free) (from .count) × (length (now g) ≡ length (now cols)) × (length (now v) ≡ length (now cols)) × (from .frozen ≤ 256) × (signs ≡ true → AllSigns (now u) n (now cols)) ⌝ }
+    requires { ⌜ Chosen (now u) n (now cols) (now scale) (length (now blocked)) × Roomy (length (now cols)) (now num) (now blocked) (now x) (now free) (from .count) × (length (now g) ≡ length (now cols)) × (length (now v) ≡ length (now cols)) × (from .frozen ≤ 256) ⌝ }
     ensures { λ r. ⌜ StepHolds (now (num .exit)) (now (blocked .exit)) (now (x .exit)) (now (free .exit)) r (stepOf plusZero (entryOf (now (u .entry)) n (now (cols .entry)) (now (scale .entry))) (length (now (cols .entry))) (length (now (blocked .entry))) (held (now (num .entry)) (now (blocked .entry)) (now (x .entry)) (now (free .entry)) (from .count) (from .frozen) (from .rng .state))) ⌝ }
 {
     let l = cols.len();
@@ -64,7 +60,7 @@ fn step(
             at: Stand { count, frozen, rng },
         };
     }
-    if !advance(num, rows, x, &free[..], u, n, cols, scale, g, signs) {
+    if !advance(num, rows, x, &free[..], u, n, cols, scale, g) {
         return Went {
             more: false,
             at: Stand { count, frozen, rng },
@@ -105,9 +101,8 @@ fn steps(
     from: Stand,
     g: &mut [f64],
     v: &mut [f64],
-    signs: bool,
 ) -> Stand
-    requires { ⌜ Chosen (now u) n (now cols) (now scale) (length (now blocked)) × Roomy (length (now cols)) (now num) (now blocked) (now x) (now free) (from .count) × (length (now g) ≡ length (now cols)) × (length (now v) ≡ length (now cols)) × (from .frozen ≡ 0) × (signs ≡ true → AllSigns (now u) n (now cols)) ⌝ }
+    requires { ⌜ Chosen (now u) n (now cols) (now scale) (length (now blocked)) × Roomy (length (now cols)) (now num) (now blocked) (now x) (now free) (from .count) × (length (now g) ≡ length (now cols)) × (length (now v) ≡ length (now cols)) × (from .frozen ≡ 0) ⌝ }
     ensures { λ r. ⌜ held (now (num .exit)) (now (blocked .exit)) (now (x .exit)) (now (free .exit)) (r .count) (r .frozen) (r .rng .state) ≡ phaseOf plusZero (entryOf (now (u .entry)) n (now (cols .entry)) (now (scale .entry))) (length (now (cols .entry))) (length (now (blocked .entry))) (held (now (num .entry)) (now (blocked .entry)) (now (x .entry)) (now (free .entry)) (from .count) (from .frozen) (from .rng .state)) ⌝ }
 {
     let mut at = from;
@@ -124,7 +119,6 @@ fn steps(
             at,
             &mut g[..],
             &mut v[..],
-            signs,
         );
         let next = s.at;
         at = next;
@@ -171,6 +165,5 @@ pub fn phase(
         },
         &mut g[..l],
         &mut v[..l],
-        all_signs(u, n, cols),
     )
 }

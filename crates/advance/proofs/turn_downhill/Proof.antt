@@ -29,7 +29,7 @@ times-into-requires : tie.Need-times-into-requires
 times-into-requires c κs =
     let a = c .before .before .before .before .before .before .before .args in
     let k : length (take (a .rows + a .rows - a .rows) (drop (a .rows) (a .num .now))) ≡ a .rows = length-part (a .rows) (a .rows + a .rows - a .rows) (a .num .now) (omega arith) ∙ omega arith in
-    (rw k (c .before .before .before .before .before .before .before .pre .0), c .before .before .before .before .before .before .before .pre .1, c .before .before .before .before .before .before .before .pre .3)
+    (rw k (c .before .before .before .before .before .before .before .pre .0), c .before .before .before .before .before .before .before .pre .1)
 
 sub-dot : tie.Need-sub-dot
 sub-dot c = search needs

@@ -3,15 +3,12 @@ use Rattle.entries.specs.Entries.{entryOf}
 use Rattle.search.specs.Search.{searched}
 use borrow.Author.Needs.{needs}
 use mathlib.Core.Path.{ap, _∙_}
-use mathlib.Core.Bool.{false≢true}
 use lib.ListN.{length}
 use Rattle.coloring.proofs.search_anew.Statement.{statement}
 use Rattle.coloring.proofs.search_anew.Tie as tie
 
 times-into-requires : tie.Need-times-into-requires
-times-into-requires c κs =
-    let p = c .before .before .before .before .before .before .before .pre in
-    (p .0, p .1, λ e. absurd (false≢true e))
+times-into-requires c κs = search needs
 
 local-search-requires : tie.Need-local-search-requires
 local-search-requires c κs =

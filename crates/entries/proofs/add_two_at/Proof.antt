@@ -35,64 +35,62 @@ mul-b-2 c = omega (arith, c .before .before .before .before .before .before .bef
 add-f : tie.Need-add-f
 add-f c = omega (arith, c .before .before .before .before .before .before .before .pre .0 .inside _ (c .before .before .before .before .before .before .before .pre .3))
 
-mul-add-pair : tie.Need-mul-add-pair
-mul-add-pair c = omega (arith, c .before .before .before .before .before .before .before .before .pre .0 .inside _ (c .before .before .before .before .before .before .before .before .pre .2))
+mul-add-two : tie.Need-mul-add-two
+mul-add-two c = omega (arith, c .before .before .before .before .before .before .before .before .pre .0 .inside _ (c .before .before .before .before .before .before .before .before .pre .2))
 
-sub-add-pair : tie.Need-sub-add-pair
-sub-add-pair c = search needs
+sub-add-two : tie.Need-sub-add-two
+sub-add-two c = search needs
 
-part-add-pair-start : tie.Need-part-add-pair-start
-part-add-pair-start c = search needs
+part-add-two-start : tie.Need-part-add-two-start
+part-add-two-start c = search needs
 
-part-add-pair-end : tie.Need-part-add-pair-end
-part-add-pair-end c = omega (arith, c .before .before .before .before .before .before .before .before .pre .0 .inside _ (c .before .before .before .before .before .before .before .before .pre .2))
+part-add-two-end : tie.Need-part-add-two-end
+part-add-two-end c = omega (arith, c .before .before .before .before .before .before .before .before .pre .0 .inside _ (c .before .before .before .before .before .before .before .before .pre .2))
 
-mul-add-pair-2 : tie.Need-mul-add-pair-2
-mul-add-pair-2 c = search needs
+mul-add-two-2 : tie.Need-mul-add-two-2
+mul-add-two-2 c = search needs
 
-shared-slice-read-add-pair : tie.Need-shared-slice-read-add-pair
-shared-slice-read-add-pair c = search needs
+shared-slice-read-add-two : tie.Need-shared-slice-read-add-two
+shared-slice-read-add-two c = search needs
 
-mul-add-pair-3 : tie.Need-mul-add-pair-3
-mul-add-pair-3 c = search needs
+mul-add-two-3 : tie.Need-mul-add-two-3
+mul-add-two-3 c = search needs
 
-shared-slice-read-add-pair-2 : tie.Need-shared-slice-read-add-pair-2
-shared-slice-read-add-pair-2 c = search needs
+shared-slice-read-add-two-2 : tie.Need-shared-slice-read-add-two-2
+shared-slice-read-add-two-2 c = search needs
 
-mul-add-pair-4 : tie.Need-mul-add-pair-4
-mul-add-pair-4 c = omega (arith, c .before .before .before .before .before .before .before .before .before .before .before .pre .0 .inside _ (c .before .before .before .before .before .before .before .before .before .before .before .pre .3))
+mul-add-two-4 : tie.Need-mul-add-two-4
+mul-add-two-4 c = omega (arith, c .before .before .before .before .before .before .before .before .before .before .before .pre .0 .inside _ (c .before .before .before .before .before .before .before .before .before .before .before .pre .3))
 
-sub-add-pair-2 : tie.Need-sub-add-pair-2
-sub-add-pair-2 c = search needs
+sub-add-two-2 : tie.Need-sub-add-two-2
+sub-add-two-2 c = search needs
 
-part-add-pair-start-2 : tie.Need-part-add-pair-start-2
-part-add-pair-start-2 c = search needs
+part-add-two-start-2 : tie.Need-part-add-two-start-2
+part-add-two-start-2 c = search needs
 
-part-add-pair-end-2 : tie.Need-part-add-pair-end-2
-part-add-pair-end-2 c = omega (arith, c .before .before .before .before .before .before .before .before .before .before .before .pre .0 .inside _ (c .before .before .before .before .before .before .before .before .before .before .before .pre .3))
+part-add-two-end-2 : tie.Need-part-add-two-end-2
+part-add-two-end-2 c = omega (arith, c .before .before .before .before .before .before .before .before .before .before .before .pre .0 .inside _ (c .before .before .before .before .before .before .before .before .before .before .before .pre .3))
 
-mul-add-pair-5 : tie.Need-mul-add-pair-5
-mul-add-pair-5 c = search needs
+mul-add-two-5 : tie.Need-mul-add-two-5
+mul-add-two-5 c = search needs
 
-shared-slice-read-add-pair-3 : tie.Need-shared-slice-read-add-pair-3
-shared-slice-read-add-pair-3 c = search needs
+shared-slice-read-add-two-3 : tie.Need-shared-slice-read-add-two-3
+shared-slice-read-add-two-3 c = search needs
 
-mul-add-pair-6 : tie.Need-mul-add-pair-6
-mul-add-pair-6 c = search needs
+mul-add-two-6 : tie.Need-mul-add-two-6
+mul-add-two-6 c = search needs
 
-shared-slice-read-add-pair-4 : tie.Need-shared-slice-read-add-pair-4
-shared-slice-read-add-pair-4 c = search needs
+shared-slice-read-add-two-4 : tie.Need-shared-slice-read-add-two-4
+shared-slice-read-add-two-4 c = search needs
 
-add-pair-requires : tie.Need-add-pair-requires
-add-pair-requires c κs =
-    let p = c .before .before .before .before .before .before .before .before .before .before .before .before .before .before .pre in
-    (omega arith, omega arith, omega arith, λ e. (rw (add-sub-cancel-left) (p .4 e .each _ (p .2)), rw (add-sub-cancel-left) (p .4 e .each _ (p .3))))
+add-two-requires : tie.Need-add-two-requires
+add-two-requires c κs = search needs
 
 same-length : tie.Need-same-length
 same-length c = search needs
 
 returns : tie.Need-returns
-returns c = simp add-sub-cancel-left at (c .before .before .add-pair .ensures)
+returns c = simp add-sub-cancel-left at (c .before .before .add-two .ensures)
 
 pub add-two-at-spec : {M : Type 1} → statement M
 add-two-at-spec =
@@ -108,22 +106,22 @@ add-two-at-spec =
     cast-b
     mul-b-2
     add-f
-    mul-add-pair
-    sub-add-pair
-    part-add-pair-start
-    part-add-pair-end
-    mul-add-pair-2
-    shared-slice-read-add-pair
-    mul-add-pair-3
-    shared-slice-read-add-pair-2
-    mul-add-pair-4
-    sub-add-pair-2
-    part-add-pair-start-2
-    part-add-pair-end-2
-    mul-add-pair-5
-    shared-slice-read-add-pair-3
-    mul-add-pair-6
-    shared-slice-read-add-pair-4
-    add-pair-requires
+    mul-add-two
+    sub-add-two
+    part-add-two-start
+    part-add-two-end
+    mul-add-two-2
+    shared-slice-read-add-two
+    mul-add-two-3
+    shared-slice-read-add-two-2
+    mul-add-two-4
+    sub-add-two-2
+    part-add-two-start-2
+    part-add-two-end-2
+    mul-add-two-5
+    shared-slice-read-add-two-3
+    mul-add-two-6
+    shared-slice-read-add-two-4
+    add-two-requires
     same-length
     returns)

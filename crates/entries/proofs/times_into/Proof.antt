@@ -12,11 +12,11 @@ use Rattle.entries.proofs.times_into.Statement.{statement}
 use Rattle.entries.proofs.times_into.Tie as tie
 
 abbrev Inv-loop : tie.InvT-loop
-Inv-loop acc₀ u n cols scale g signs p₀ acc p =
+Inv-loop acc₀ u n cols scale g p₀ acc p =
     (p ≤ length cols) × (length acc ≡ length acc₀) × (acc ≡ times plusZero (entryOf u n cols scale) p (length acc₀) g)
 
 abbrev μ-loop : tie.MeasureT-loop
-μ-loop acc₀ u n cols scale g signs p₀ acc p = length cols - p
+μ-loop acc₀ u n cols scale g p₀ acc p = length cols - p
 
 clear-requires : tie.Need-clear-requires Inv-loop μ-loop
 clear-requires c κs = search needs
@@ -44,7 +44,7 @@ add-two-at-requires c κs =
     let c4 = c .before .before .before .before in
     let c8 = c4 .before .before .before .before in
     let c15 = c8 .before .before .before .before .before .before .before in
-    (rw (c4 .loop .inv .1 ∙ c8 .clear .kept .0) (c15 .pre .0), c15 .pre .1, c .before .before .before .loop-test .taken, c .before .if1 .taken, c15 .pre .2)
+    (rw (c4 .loop .inv .1 ∙ c8 .clear .kept .0) (c15 .pre .0), c15 .pre .1, c .before .before .before .loop-test .taken, c .before .if1 .taken)
 
 add-next-live-2 : tie.Need-add-next-live-2 Inv-loop μ-loop
 add-next-live-2 c = search needs

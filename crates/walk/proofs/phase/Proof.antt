@@ -4,7 +4,7 @@ use lib.Seq.{length-take-le}
 use Rattle.freeze.proofs.Scratch.{front-back}
 use Rattle.walk.proofs.Phases.{start-room, phase-is}
 use borrow.Author.Needs.{needs}
-use mathlib.Core.Path.{refl, sym, _∙_}
+use mathlib.Core.Path.{refl, sym}
 use native.Mathlib.Omega.{arith}
 use lib.ListN.{length}
 use Rattle.walk.proofs.phase.Statement.{statement}
@@ -44,17 +44,14 @@ slice-aggregate-steps-2 c =
     let c26 = c11 .before .before .before .before .before .before .before .before .before .before .before .before .before .before .before in
     sym (length-take-le _ _ (front-back _ (c11 .begin .last .1 .1 .1 .1 .1 .1 .0) _ (c11 .begin .kept .1 .1 .1 .1 .1 .1 .0) (omega (arith, c26 .pre .0 .few))))
 
-all-signs-requires : tie.Need-all-signs-requires
-all-signs-requires c κs = c .before .before .before .before .before .before .before .before .before .before .before .before .before .before .before .before .before .before .before .before .before .before .before .before .before .before .pre .0 .inside
-
 steps-requires : tie.Need-steps-requires
 steps-requires c κs =
-    let c12 = c .before .before .before .before .before .before .before .before .before .before .before .before in
-    let c18 = c12 .before .before .before .before .before .before in
-    let c27 = c18 .before .before .before .before .before .before .before .before .before in
-    let a = c27 .args in
-    let p = c27 .pre in
-    (rw (c12 .begin .kept .1 .0) (p .0), start-room (entryOf (a .u .now) (a .n) (a .cols .now) (a .scale .now)) (length (a .cols .now)) (a .num .now) (a .blocked .now) (a .x .now) (a .free .now) (c12 .begin .last .0) (c12 .begin .last .1 .0) (c18 .fill-words .last .0) (c12 .begin .result) (p .1) (c12 .begin .ensures) (c12 .begin .kept .0) (c12 .begin .kept .1 .0) (c18 .fill-words .ensures), length-take-le _ _ (omega (arith, p .0 .few)), length-take-le _ _ (front-back _ (c12 .begin .last .1 .1 .1 .1 .1 .1 .0) _ (c12 .begin .kept .1 .1 .1 .1 .1 .1 .0) (omega (arith, p .0 .few))), refl, c .all-signs .ensures)
+    let c11 = c .before .before .before .before .before .before .before .before .before .before .before in
+    let c17 = c11 .before .before .before .before .before .before in
+    let c26 = c17 .before .before .before .before .before .before .before .before .before in
+    let a = c26 .args in
+    let p = c26 .pre in
+    (rw (c11 .begin .kept .1 .0) (p .0), start-room (entryOf (a .u .now) (a .n) (a .cols .now) (a .scale .now)) (length (a .cols .now)) (a .num .now) (a .blocked .now) (a .x .now) (a .free .now) (c11 .begin .last .0) (c11 .begin .last .1 .0) (c17 .fill-words .last .0) (c11 .begin .result) (p .1) (c11 .begin .ensures) (c11 .begin .kept .0) (c11 .begin .kept .1 .0) (c17 .fill-words .ensures), length-take-le _ _ (omega (arith, p .0 .few)), length-take-le _ _ (front-back _ (c11 .begin .last .1 .1 .1 .1 .1 .1 .0) _ (c11 .begin .kept .1 .1 .1 .1 .1 .1 .0) (omega (arith, p .0 .few))), refl)
 
 same-length : tie.Need-same-length
 same-length c = search needs
@@ -66,20 +63,17 @@ same-length-3 : tie.Need-same-length-3
 same-length-3 c = search needs
 
 same-length-4 : tie.Need-same-length-4
-same-length-4 c =
-    let c10 = c .before .before .before .before .before .before .before .before .before .before in
-    let c29 = c10 .before .before .before .before .before .before .before .before .before .before .before .before .before .before .before .before .before .before .before in
-    c10 .steps .kept .1 .1 .1 .0 ∙ c29 .fill-words .kept .0
+same-length-4 c = search needs
 
 returns : tie.Need-returns
 returns c =
     let c10 = c .before .before .before .before .before .before .before .before .before .before in
-    let c23 = c10 .before .before .before .before .before .before .before .before .before .before .before .before .before in
-    let c29 = c23 .before .before .before .before .before .before in
-    let c38 = c29 .before .before .before .before .before .before .before .before .before in
-    let a = c38 .args in
-    let p = c38 .pre in
-    phase-is (entryOf (a .u .now) (a .n) (a .cols .now) (a .scale .now)) (length (a .cols .now)) (a .num .now) (a .blocked .now) (a .x .now) (a .free .now) (c23 .begin .last .0) (c23 .begin .last .1 .0) (c29 .fill-words .last .0) (c23 .begin .result) (p .1) (c23 .begin .ensures) (c23 .begin .kept .0) (c23 .begin .kept .1 .0) (c29 .fill-words .ensures) _ (a .rng .state) (c10 .steps .ensures)
+    let c22 = c10 .before .before .before .before .before .before .before .before .before .before .before .before in
+    let c28 = c22 .before .before .before .before .before .before in
+    let c37 = c28 .before .before .before .before .before .before .before .before .before in
+    let a = c37 .args in
+    let p = c37 .pre in
+    phase-is (entryOf (a .u .now) (a .n) (a .cols .now) (a .scale .now)) (length (a .cols .now)) (a .num .now) (a .blocked .now) (a .x .now) (a .free .now) (c22 .begin .last .0) (c22 .begin .last .1 .0) (c28 .fill-words .last .0) (c22 .begin .result) (p .1) (c22 .begin .ensures) (c22 .begin .kept .0) (c22 .begin .kept .1 .0) (c28 .fill-words .ensures) _ (a .rng .state) (c10 .steps .ensures)
 
 pub phase-spec : {M : Type 1} → statement M
 phase-spec =
@@ -93,7 +87,6 @@ phase-spec =
     slice-aggregate-steps
     array-borrow-prefix-v-2
     slice-aggregate-steps-2
-    all-signs-requires
     steps-requires
     same-length
     same-length-2

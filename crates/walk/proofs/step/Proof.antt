@@ -74,7 +74,7 @@ advance-requires c κs =
     let c14 = c7 .before .before .before .before .before .before .before in
     let c25 = c14 .before .before .before .before .before .before .before .before .before .before .before in
     let p = c25 .pre in
-    (p .0, c7 .direct .kept .1 .1 .1 .1 .0 ∙ c14 .draw-into .kept .0 ∙ p .2, p .1 .wide, p .1 .marks, omega (arith, p .1 .room), p .5)
+    (p .0, c7 .direct .kept .1 .1 .1 .1 .0 ∙ c14 .draw-into .kept .0 ∙ p .2, p .1 .wide, p .1 .marks, omega (arith, p .1 .room))
 
 same-length-4 : tie.Need-same-length-4
 same-length-4 c = search needs

@@ -12,11 +12,11 @@ use Rattle.walk.proofs.steps.Statement.{statement}
 use Rattle.walk.proofs.steps.Tie as tie
 
 abbrev Inv-loop : tie.InvT-loop
-Inv-loop num₀ blocked₀ x₀ free₀ u n cols scale g₀ v₀ signs at₀ num blocked x free g v at =
+Inv-loop num₀ blocked₀ x₀ free₀ u n cols scale g₀ v₀ at₀ num blocked x free g v at =
     Going (entryOf u n cols scale) (length cols) num₀ blocked₀ x₀ free₀ g₀ v₀ (held num₀ blocked₀ x₀ free₀ (at₀ .count) (at₀ .frozen) (at₀ .rng .state)) num blocked x free g v (at .count) (at .frozen) (at .rng .state)
 
 abbrev μ-loop : tie.MeasureT-loop
-μ-loop num₀ blocked₀ x₀ free₀ u n cols scale g₀ v₀ signs at₀ num blocked x free g v at = freeOnes free
+μ-loop num₀ blocked₀ x₀ free₀ u n cols scale g₀ v₀ at₀ num blocked x free g v at = freeOnes free
 
 loop-holds : tie.Need-loop-holds Inv-loop μ-loop
 loop-holds c =
@@ -28,7 +28,7 @@ step-requires : tie.Need-step-requires Inv-loop μ-loop
 step-requires c κs =
     let p = c .before .before .before .before .before .before .before .before .before .before .before .before .before .before .before .before .before .before .pre in
     let i = c .before .before .before .before .before .before .before .before .loop .inv in
-    (rw (i .rows) (p .0), i .roomy, i .gs ∙ p .2, i .vs ∙ p .3, omega (arith, i .few, p .0 .few), p .5)
+    (rw (i .rows) (p .0), i .roomy, i .gs ∙ p .2, i .vs ∙ p .3, omega (arith, i .few, p .0 .few))
 
 loop-less : tie.Need-loop-less Inv-loop μ-loop
 loop-less c =
