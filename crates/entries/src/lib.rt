@@ -1,4 +1,4 @@
-// How an entry is read: every function that touches the matrix. A column is chosen and scaled; what it then does to a vector is in the crate columns.
+// How an entry is read: a column is chosen from the matrix and scaled; what it then does to a vector is in the crate columns.
 use columns::add_column;
 use columns::add_squares;
 use columns::add_two;
