@@ -23,6 +23,15 @@ use Rattle.coloring.specs.Fresh.{Fresh}
 use Rattle.freeze.specs.Held.{Roomy}
 use Rattle.coloring.proofs.Phases.{falls}
 
+-- the room that the phases share stays as long as it was made
+pub record Rooms (ps cs : List ℕ) (ss xs : List Float) (fs : List ℕ) (ds : List Float) : Type 0 where
+  pub places : length ps ≡ 256
+  pub subcols : length cs ≡ 256
+  pub subscale : length ss ≡ 256
+  pub subx : length xs ≡ 256
+  pub subfree : length fs ≡ 256
+  pub g : length ds ≡ 256
+
 module _ (z : Float) (a : ℕ → ℕ → Float) (k n : ℕ) where
   -- what is left of the walk from b
   abbrev pub onward : Between → Between

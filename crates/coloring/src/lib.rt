@@ -48,10 +48,32 @@ fn walk(
     requires { ⌜ Chosen (now u) n (now cols) (now scale) (length (now blocked)) × Roomy (length (now cols)) (now num) (now blocked) (now x) (now free) 0 × Fresh (length (now cols)) (length (now blocked)) (now num) (now x) (now free) ⌝ }
     ensures { λ r. ⌜ between (length (now (blocked .entry))) (now (num .exit)) (now (x .exit)) (now (free .exit)) (r .state) ≡ walked plusZero (entryOf (now (u .entry)) n (now (cols .entry)) (now (scale .entry))) (length (now (cols .entry))) (length (now (blocked .entry))) (rng .state) ⌝ }
 {
+    let mut places = [0u32; 256];
+    let mut subcols = [0u32; 256];
+    let mut subscale = [0.0f64; 256];
+    let mut subx = [0.0f64; 256];
+    let mut subfree = [0u32; 256];
+    let mut g = [0.0f64; 256];
     let mut r = rng;
     let mut left = count_free(&free[..]);
     while left > 0 {
-        let next = next_phase(num, blocked, x, free, u, n, cols, scale, r);
+        let next = next_phase(
+            num,
+            blocked,
+            x,
+            free,
+            u,
+            n,
+            cols,
+            scale,
+            r,
+            &mut places[..],
+            &mut subcols[..],
+            &mut subscale[..],
+            &mut subx[..],
+            &mut subfree[..],
+            &mut g[..],
+        );
         r = next;
         left = count_free(&free[..]);
     }

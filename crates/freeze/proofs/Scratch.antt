@@ -3,7 +3,7 @@ use Prim.Native.Nat.{ℕ, _+_, _*_, _-_, _≤_}
 use mathlib.Core.Path.{_≡_, sym, ap, _∙_}
 use mathlib.Core.List.{List, _++_, append-nil}
 use native.Mathlib.Omega.{arith}
-use lib.ListN.{length, take, drop, length-drop, length-append, drop-of-length-le, take-append-drop}
+use lib.ListN.{length, take, drop, length-drop, drop-of-length-le, take-append-drop}
 use lib.Seq.{take-all, drop-at, length-take-le, drop-drop, take-append-le, drop-append-le}
 use lib.Ieee.{Float}
 use Rattle.seq.specs.Lists.{part, placed}
@@ -72,7 +72,3 @@ pub walk-path : {x x' ax ax' : List Float} {free free' blocked blocked' : List �
     → _≡_ {A = Walk} (record { x = x; free = free; frozen = frozen; ax = ax; blocked = blocked; basis = basis; rng = rng })
     (record { x = x'; free = free'; frozen = frozen'; ax = ax'; blocked = blocked'; basis = basis'; rng = rng' })
 walk-path a b c d e f g = λ i. record { x = a i; free = b i; frozen = c i; ax = d i; blocked = e i; basis = f i; rng = g i }
-
--- a front that was lent and came back leaves the list as long as it was
-pub front-back : (l : ℕ) (ys zs : List Float) → length ys ≡ length (take l zs) → l ≤ length zs → l ≤ length (ys ++ drop l zs)
-front-back l ys zs e h = rw length-append (omega (arith, e, length-take-le l zs h))

@@ -107,6 +107,9 @@ pub places-below : (free places : List ℕ) (k l : ℕ) → length free ≡ k �
 places-below free places k l e p =
     rw (p .front, e) (record { below = λ q h. keep-good (isSet free) k q h .1 }, keep-short (isSet free) k)
 
+pub places-few : (free places : List ℕ) (k l : ℕ) → length free ≡ k → Pushed (keep (isSet free) (length free)) l places → l ≤ k
+places-few free places k l e p = omega (arith, e, p .long, keep-short (isSet free) (length free))
+
 module _ (a : ℕ → ℕ → Float) (k rows : ℕ) (rng : ℕ) (num x : List Float) (free places : List ℕ) (frozen rng' : ℕ) (num' x' : List Float) (free' : List ℕ)
     (is : places ≡ keep (isSet free) k) (at : PhasedAt a rows places rng num x free frozen rng' num' x' free') where
   -- what stands once the phase's coordinates are back at some places

@@ -24,7 +24,7 @@ struct Phased {
     rng: SplitMix64,
 }
 
-// A phase on the columns at some places; the four slices are room for what is chosen there.
+// A phase on the columns at some places. The last five slices are room: for what is chosen there, and for a direction.
 fn phase_on(
     num: &mut [f64],
     blocked: &mut [u32],
@@ -40,9 +40,10 @@ fn phase_on(
     subscale: &mut [f64],
     subx: &mut [f64],
     subfree: &mut [u32],
+    g: &mut [f64],
 ) -> Phased
     requires { ⌜ Chosen (now u) n (now cols) (now scale) (length (now blocked)) × Roomy (length (now cols)) (now num) (now blocked) (now x) (now free) 0 × Below (now places) (length (now cols)) × (length (now places) ≤ length (now cols)) ⌝ }
-    requires { ⌜ (length (now subcols) ≡ length (now places)) × (length (now subscale) ≡ length (now places)) × (length (now subx) ≡ length (now places)) × (length (now subfree) ≡ length (now places)) ⌝ }
+    requires { ⌜ (length (now subcols) ≡ length (now places)) × (length (now subscale) ≡ length (now places)) × (length (now subx) ≡ length (now places)) × (length (now subfree) ≡ length (now places)) × (length (now g) ≡ length (now places)) ⌝ }
     ensures { λ r. ⌜ PhasedAt (entryOf (now (u .entry)) n (now (cols .entry)) (now (scale .entry))) (length (now (blocked .entry))) (now (places .entry)) (rng .state) (now (num .entry)) (now (x .entry)) (now (free .entry)) (r .frozen) (r .rng .state) (now (num .exit)) (now (x .exit)) (now (free .exit)) ⌝ }
 {
     choose_words(&mut subcols[..], cols, places);
@@ -58,6 +59,7 @@ fn phase_on(
         &subcols[..],
         &subscale[..],
         rng,
+        g,
     );
     put_back(x, places, &subx[..]);
     put_back_words(free, places, &subfree[..]);
@@ -68,46 +70,7 @@ fn phase_on(
     }
 }
 
-// The same, with room of its own.
-fn phase_at(
-    num: &mut [f64],
-    blocked: &mut [u32],
-    x: &mut [f64],
-    free: &mut [u32],
-    places: &[u32],
-    u: &[f64],
-    n: usize,
-    cols: &[u32],
-    scale: &[f64],
-    rng: SplitMix64,
-) -> Phased
-    requires { ⌜ Chosen (now u) n (now cols) (now scale) (length (now blocked)) × Roomy (length (now cols)) (now num) (now blocked) (now x) (now free) 0 × Below (now places) (length (now cols)) × (length (now places) ≤ length (now cols)) ⌝ }
-    ensures { λ r. ⌜ PhasedAt (entryOf (now (u .entry)) n (now (cols .entry)) (now (scale .entry))) (length (now (blocked .entry))) (now (places .entry)) (rng .state) (now (num .entry)) (now (x .entry)) (now (free .entry)) (r .frozen) (r .rng .state) (now (num .exit)) (now (x .exit)) (now (free .exit)) ⌝ }
-{
-    let l = places.len();
-    let mut some_cols = [0u32; 256];
-    let mut some_scale = [0.0f64; 256];
-    let mut some_x = [0.0f64; 256];
-    let mut some_free = [0u32; 256];
-    phase_on(
-        num,
-        blocked,
-        x,
-        free,
-        places,
-        u,
-        n,
-        cols,
-        scale,
-        rng,
-        &mut some_cols[..l],
-        &mut some_scale[..l],
-        &mut some_x[..l],
-        &mut some_free[..l],
-    )
-}
-
-// A phase on the free columns; a phase that freezes nothing rounds them.
+// A phase on the free columns; a phase that freezes nothing rounds them. The last six slices are room, for as much as there are columns.
 pub fn next_phase(
     num: &mut [f64],
     blocked: &mut [u32],
@@ -118,13 +81,35 @@ pub fn next_phase(
     cols: &[u32],
     scale: &[f64],
     rng: SplitMix64,
+    places: &mut [u32],
+    subcols: &mut [u32],
+    subscale: &mut [f64],
+    subx: &mut [f64],
+    subfree: &mut [u32],
+    g: &mut [f64],
 ) -> SplitMix64
     requires { ⌜ Chosen (now u) n (now cols) (now scale) (length (now blocked)) × Roomy (length (now cols)) (now num) (now blocked) (now x) (now free) 0 ⌝ }
+    requires { ⌜ (length (now cols) ≤ length (now places)) × (length (now cols) ≤ length (now subcols)) × (length (now cols) ≤ length (now subscale)) × (length (now cols) ≤ length (now subx)) × (length (now cols) ≤ length (now subfree)) × (length (now cols) ≤ length (now g)) ⌝ }
     ensures { λ r. ⌜ between (length (now (blocked .entry))) (now (num .exit)) (now (x .exit)) (now (free .exit)) (r .state) ≡ phased plusZero (entryOf (now (u .entry)) n (now (cols .entry)) (now (scale .entry))) (length (now (cols .entry))) (length (now (blocked .entry))) (between (length (now (blocked .entry))) (now (num .entry)) (now (x .entry)) (now (free .entry)) (rng .state)) ⌝ }
 {
-    let mut places = [0u32; 256];
     let l = free_places(&mut places[..], &free[..]);
-    let p = phase_at(num, blocked, x, free, &places[..l], u, n, cols, scale, rng);
+    let p = phase_on(
+        num,
+        blocked,
+        x,
+        free,
+        &places[..l],
+        u,
+        n,
+        cols,
+        scale,
+        rng,
+        &mut subcols[..l],
+        &mut subscale[..l],
+        &mut subx[..l],
+        &mut subfree[..l],
+        &mut g[..l],
+    );
     if p.frozen == 0 {
         round_free(x, &free[..]);
         fill_words(free, 0);

@@ -51,21 +51,20 @@ module _ (z : Float) (a : ℕ → ℕ → Float) (l n : ℕ) (w : Walk) (fits : 
       (steppedAlong z a l n w (directed z (w .basis) (w .free) (drawn (w .rng) l))) fits (along-most _)
 
 -- what holds between two steps
-pub record Going (a : ℕ → ℕ → Float) (l : ℕ) (num₀ : List Float) (blocked₀ : List ℕ) (x₀ : List Float) (free₀ : List ℕ) (g₀ v₀ : List Float) (start : Walk)
-    (num : List Float) (blocked : List ℕ) (x : List Float) (free : List ℕ) (g v : List Float) (count frozen rng : ℕ) : Type 0 where
+pub record Going (a : ℕ → ℕ → Float) (l : ℕ) (num₀ : List Float) (blocked₀ : List ℕ) (x₀ : List Float) (free₀ : List ℕ) (g₀ : List Float) (start : Walk)
+    (num : List Float) (blocked : List ℕ) (x : List Float) (free : List ℕ) (g : List Float) (count frozen rng : ℕ) : Type 0 where
   pub roomy : Roomy l num blocked x free count
   pub nums : length num ≡ length num₀
   pub rows : length blocked ≡ length blocked₀
   pub xs : length x ≡ length x₀
   pub frees : length free ≡ length free₀
   pub gs : length g ≡ length g₀
-  pub vs : length v ≡ length v₀
   pub few : frozen + freeOnes free ≤ l
   pub same : phaseOf plusZero a l (length blocked₀) (held num blocked x free count frozen rng) ≡ phaseOf plusZero a l (length blocked₀) start
 
-module _ (a : ℕ → ℕ → Float) (l : ℕ) (num₀ : List Float) (blocked₀ : List ℕ) (x₀ : List Float) (free₀ : List ℕ) (g₀ v₀ : List Float) where
+module _ (a : ℕ → ℕ → Float) (l : ℕ) (num₀ : List Float) (blocked₀ : List ℕ) (x₀ : List Float) (free₀ : List ℕ) (g₀ : List Float) where
   pub going-start : (count frozen rng : ℕ) → Roomy l num₀ blocked₀ x₀ free₀ count → frozen ≡ 0
-      → Going a l num₀ blocked₀ x₀ free₀ g₀ v₀ (held num₀ blocked₀ x₀ free₀ count frozen rng) num₀ blocked₀ x₀ free₀ g₀ v₀ count frozen rng
+      → Going a l num₀ blocked₀ x₀ free₀ g₀ (held num₀ blocked₀ x₀ free₀ count frozen rng) num₀ blocked₀ x₀ free₀ g₀ count frozen rng
   going-start count frozen rng r e =
       record {
         roomy = r;
@@ -74,13 +73,12 @@ module _ (a : ℕ → ℕ → Float) (l : ℕ) (num₀ : List Float) (blocked₀
         xs = refl;
         frees = refl;
         gs = refl;
-        vs = refl;
         few = omega (arith, ones-most (isSet free₀) (length free₀), r .marks);
         same = refl;
       }
 
-  module _ (start : Walk) (num : List Float) (blocked : List ℕ) (x : List Float) (free : List ℕ) (g v : List Float) (count frozen rng : ℕ)
-      (i : Going a l num₀ blocked₀ x₀ free₀ g₀ v₀ start num blocked x free g v count frozen rng) where
+  module _ (start : Walk) (num : List Float) (blocked : List ℕ) (x : List Float) (free : List ℕ) (g : List Float) (count frozen rng : ℕ)
+      (i : Going a l num₀ blocked₀ x₀ free₀ g₀ start num blocked x free g count frozen rng) where
     abbrev n : ℕ
     n = length blocked₀
 
@@ -117,10 +115,10 @@ module _ (a : ℕ → ℕ → Float) (l : ℕ) (num₀ : List Float) (blocked₀
           let f : s .at .frozen ≡ one .walk .frozen = ap (λ (w : Walk). w .frozen) (here .walk) in
           omega (arith, together, f, step-sound plusZero a l n now-at .more-frozen (sym (here .more) ∙ e))
 
-      pub going-on : (g' v' : List Float) → s .more ≡ true
-          → length num' ≡ length num → length blocked' ≡ length blocked → length x' ≡ length x → length free' ≡ length free → length g' ≡ length g → length v' ≡ length v
-          → Going a l num₀ blocked₀ x₀ free₀ g₀ v₀ start num' blocked' x' free' g' v' (s .at .count) (s .at .frozen) (s .at .rng .state)
-      going-on g' v' e ln lb lx lf lg lv =
+      pub going-on : (g' : List Float) → s .more ≡ true
+          → length num' ≡ length num → length blocked' ≡ length blocked → length x' ≡ length x → length free' ≡ length free → length g' ≡ length g
+          → Going a l num₀ blocked₀ x₀ free₀ g₀ start num' blocked' x' free' g' (s .at .count) (s .at .frozen) (s .at .rng .state)
+      going-on g' e ln lb lx lf lg =
           let q : Roomy l num blocked x free count = i .roomy in
           record {
             roomy = record {
@@ -135,7 +133,6 @@ module _ (a : ℕ → ℕ → Float) (l : ℕ) (num₀ : List Float) (blocked₀
             xs = lx ∙ i .xs;
             frees = lf ∙ i .frees;
             gs = lg ∙ i .gs;
-            vs = lv ∙ i .vs;
             few = omega (arith, together, i .few);
             same = ap (phaseOf plusZero a l n) (here .walk) ∙ sym (phase-on plusZero a l n now-at (omega (arith, counted)) (sym (here .more) ∙ e)) ∙ i .same;
           }

@@ -30,7 +30,7 @@ pub struct Went {
     pub at: Stand,
 }
 
-// One step. g and v are room for a direction and for a row.
+// One step. g is room for a direction and then for a row.
 fn step(
     num: &mut [f64],
     blocked: &mut [u32],
@@ -42,9 +42,8 @@ fn step(
     scale: &[f64],
     from: Stand,
     g: &mut [f64],
-    v: &mut [f64],
 ) -> Went
-    requires { ⌜ Chosen (now u) n (now cols) (now scale) (length (now blocked)) × Roomy (length (now cols)) (now num) (now blocked) (now x) (now free) (from .count) × (length (now g) ≡ length (now cols)) × (length (now v) ≡ length (now cols)) × (from .frozen ≤ 256) ⌝ }
+    requires { ⌜ Chosen (now u) n (now cols) (now scale) (length (now blocked)) × Roomy (length (now cols)) (now num) (now blocked) (now x) (now free) (from .count) × (length (now g) ≡ length (now cols)) × (from .frozen ≤ 256) ⌝ }
     ensures { λ r. ⌜ StepHolds (now (num .exit)) (now (blocked .exit)) (now (x .exit)) (now (free .exit)) r (stepOf plusZero (entryOf (now (u .entry)) n (now (cols .entry)) (now (scale .entry))) (length (now (cols .entry))) (length (now (blocked .entry))) (held (now (num .entry)) (now (blocked .entry)) (now (x .entry)) (now (free .entry)) (from .count) (from .frozen) (from .rng .state))) ⌝ }
 {
     let l = cols.len();
@@ -76,7 +75,7 @@ fn step(
         n,
         cols,
         scale,
-        v,
+        g,
     );
     Went {
         more: frozen < f.frozen,
@@ -100,26 +99,13 @@ fn steps(
     scale: &[f64],
     from: Stand,
     g: &mut [f64],
-    v: &mut [f64],
 ) -> Stand
-    requires { ⌜ Chosen (now u) n (now cols) (now scale) (length (now blocked)) × Roomy (length (now cols)) (now num) (now blocked) (now x) (now free) (from .count) × (length (now g) ≡ length (now cols)) × (length (now v) ≡ length (now cols)) × (from .frozen ≡ 0) ⌝ }
+    requires { ⌜ Chosen (now u) n (now cols) (now scale) (length (now blocked)) × Roomy (length (now cols)) (now num) (now blocked) (now x) (now free) (from .count) × (length (now g) ≡ length (now cols)) × (from .frozen ≡ 0) ⌝ }
     ensures { λ r. ⌜ held (now (num .exit)) (now (blocked .exit)) (now (x .exit)) (now (free .exit)) (r .count) (r .frozen) (r .rng .state) ≡ phaseOf plusZero (entryOf (now (u .entry)) n (now (cols .entry)) (now (scale .entry))) (length (now (cols .entry))) (length (now (blocked .entry))) (held (now (num .entry)) (now (blocked .entry)) (now (x .entry)) (now (free .entry)) (from .count) (from .frozen) (from .rng .state)) ⌝ }
 {
     let mut at = from;
     while at.count < cols.len() {
-        let s = step(
-            num,
-            blocked,
-            x,
-            free,
-            u,
-            n,
-            cols,
-            scale,
-            at,
-            &mut g[..],
-            &mut v[..],
-        );
+        let s = step(num, blocked, x, free, u, n, cols, scale, at, &mut g[..]);
         let next = s.at;
         at = next;
         if !s.more {
@@ -129,7 +115,7 @@ fn steps(
     at
 }
 
-// A whole phase, from x and A x; x and free are over its columns.
+// A whole phase, from x and A x; x and free are over its columns, and g is room for as many.
 pub fn phase(
     num: &mut [f64],
     blocked: &mut [u32],
@@ -140,15 +126,13 @@ pub fn phase(
     cols: &[u32],
     scale: &[f64],
     rng: SplitMix64,
+    g: &mut [f64],
 ) -> Stand
-    requires { ⌜ Chosen (now u) n (now cols) (now scale) (length (now blocked)) × Roomy (length (now cols)) (now num) (now blocked) (now x) (now free) 0 ⌝ }
+    requires { ⌜ Chosen (now u) n (now cols) (now scale) (length (now blocked)) × Roomy (length (now cols)) (now num) (now blocked) (now x) (now free) 0 × (length (now g) ≡ length (now cols)) ⌝ }
     ensures { λ r. ⌜ held (now (num .exit)) (now (blocked .exit)) (now (x .exit)) (now (free .exit)) (r .count) (r .frozen) (r .rng .state) ≡ phaseOf plusZero (entryOf (now (u .entry)) n (now (cols .entry)) (now (scale .entry))) (length (now (cols .entry))) (length (now (blocked .entry))) (begun plusZero (entryOf (now (u .entry)) n (now (cols .entry)) (now (scale .entry))) (length (now (cols .entry))) (length (now (blocked .entry))) (now (x .entry)) (axIn (length (now (blocked .entry))) (now (num .entry))) (rng .state)) ⌝ }
 {
-    let l = cols.len();
-    let mut g = [0.0f64; 256];
-    let mut v = [0.0f64; 256];
     fill_words(&mut free[..], 1);
-    let count = begin(num, blocked, u, n, cols, scale, &mut v[..l]);
+    let count = begin(num, blocked, u, n, cols, scale, &mut g[..]);
     steps(
         num,
         blocked,
@@ -163,7 +147,6 @@ pub fn phase(
             frozen: 0,
             rng,
         },
-        &mut g[..l],
-        &mut v[..l],
+        g,
     )
 }

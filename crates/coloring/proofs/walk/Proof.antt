@@ -5,7 +5,7 @@ use Rattle.walk.specs.Walk.{freeOnes}
 use Rattle.freeze.specs.Held.{Roomy}
 use Rattle.coloring.specs.Coloring.{walked}
 use Rattle.phasing.specs.Phasing.{between}
-use Rattle.coloring.proofs.Walks.{onward, walk-begun, walk-falls, walk-turn, walk-over, roomy-still}
+use Rattle.coloring.proofs.Walks.{Rooms, onward, walk-begun, walk-falls, walk-turn, walk-over, roomy-still}
 use borrow.Author.Needs.{needs}
 use mathlib.Core.Path.{_≡_, refl, sym, _∙_}
 use native.Mathlib.Omega.{arith}
@@ -14,13 +14,14 @@ use Rattle.coloring.proofs.walk.Statement.{statement}
 use Rattle.coloring.proofs.walk.Tie as tie
 
 abbrev Inv-loop : tie.InvT-loop
-Inv-loop num₀ blocked₀ x₀ free₀ u n cols scale r₀ left₀ num blocked x free r left =
+Inv-loop num₀ blocked₀ x₀ free₀ u n cols scale places₀ subcols₀ subscale₀ subx₀ subfree₀ g₀ r₀ left₀ num blocked x free places subcols subscale subx subfree g r left =
     Roomy (length cols) num blocked x free 0 × (length num ≡ length num₀) × (length blocked ≡ length blocked₀) × (left ≡ freeOnes free)
+    × Rooms places subcols subscale subx subfree g
     × (walked plusZero (entryOf u n cols scale) (length cols) (length blocked₀) (r₀ .state)
     ≡ onward plusZero (entryOf u n cols scale) (length cols) (length blocked₀) (between (length blocked₀) num x free (r .state)))
 
 abbrev μ-loop : tie.MeasureT-loop
-μ-loop num₀ blocked₀ x₀ free₀ u n cols scale r₀ left₀ num blocked x free r left = left
+μ-loop num₀ blocked₀ x₀ free₀ u n cols scale places₀ subcols₀ subscale₀ subx₀ subfree₀ g₀ r₀ left₀ num blocked x free places subcols subscale subx subfree g r left = left
 
 count-free-requires : tie.Need-count-free-requires Inv-loop μ-loop
 count-free-requires c κs = search needs
@@ -28,48 +29,76 @@ count-free-requires c κs = search needs
 loop-holds : tie.Need-loop-holds Inv-loop μ-loop
 loop-holds c =
     let start = c .before .before .before .before .before .before .before .before .before in
-    (start .pre .1, refl, refl, c .count-free .ensures, walk-begun _ _ _ _ _ _ _ _ (start .pre .2))
+    (start .pre .1, refl, refl, c .count-free .ensures, record { places = refl; subcols = refl; subscale = refl; subx = refl; subfree = refl; g = refl }, walk-begun _ _ _ _ _ _ _ _ (start .pre .2))
+
+slice-aggregate-next-phase : tie.Need-slice-aggregate-next-phase Inv-loop μ-loop
+slice-aggregate-next-phase c = sym (c .before .before .before .before .before .before .loop .inv .4 .places)
+
+slice-aggregate-next-phase-2 : tie.Need-slice-aggregate-next-phase-2 Inv-loop μ-loop
+slice-aggregate-next-phase-2 c = sym (c .before .before .before .before .before .before .before .loop .inv .4 .subcols)
+
+slice-aggregate-next-phase-3 : tie.Need-slice-aggregate-next-phase-3 Inv-loop μ-loop
+slice-aggregate-next-phase-3 c = sym (c .before .before .before .before .before .before .before .before .loop .inv .4 .subscale)
+
+slice-aggregate-next-phase-4 : tie.Need-slice-aggregate-next-phase-4 Inv-loop μ-loop
+slice-aggregate-next-phase-4 c = sym (c .before .before .before .before .before .before .before .before .before .loop .inv .4 .subx)
+
+slice-aggregate-next-phase-5 : tie.Need-slice-aggregate-next-phase-5 Inv-loop μ-loop
+slice-aggregate-next-phase-5 c = sym (c .before .before .before .before .before .before .before .before .before .before .loop .inv .4 .subfree)
+
+slice-aggregate-next-phase-6 : tie.Need-slice-aggregate-next-phase-6 Inv-loop μ-loop
+slice-aggregate-next-phase-6 c = sym (c .before .before .before .before .before .before .before .before .before .before .before .loop .inv .4 .g)
 
 next-phase-requires : tie.Need-next-phase-requires Inv-loop μ-loop
 next-phase-requires c κs =
-    let c5 = c .before .before .before .before .before in
-    let c15 = c5 .before .before .before .before .before .before .before .before .before .before in
-    (rw (c5 .loop .inv .2) (c15 .pre .0), c5 .loop .inv .0)
+    let c11 = c .before .before .before .before .before .before .before .before .before .before .before in
+    let c21 = c11 .before .before .before .before .before .before .before .before .before .before in
+    let few = c21 .pre .0 .few in
+    let r = c11 .loop .inv .4 in (
+      (rw (c11 .loop .inv .2) (c21 .pre .0), c11 .loop .inv .0),
+      (omega (arith, few, r .places), omega (arith, few, r .subcols), omega (arith, few, r .subscale), omega (arith, few, r .subx), omega (arith, few, r .subfree), omega (arith, few, r .g)),
+    )
 
 count-free-requires-2 : tie.Need-count-free-requires-2 Inv-loop μ-loop
 count-free-requires-2 c κs = search needs
 
 loop-less : tie.Need-loop-less Inv-loop μ-loop
 loop-less c =
-    let c10 = c .before .before .before .before .before .before .before .before .before .before in
-    let c15 = c10 .before .before .before .before .before in
-    let c16 = c15 .before in
-    let c26 = c16 .before .before .before .before .before .before .before .before .before .before in
-    let a = c26 .args in
-    let l = c16 .loop in
-    let step = rw (l .inv .2) at (c10 .next-phase .ensures) in
+    let c16 = c .before .before .before .before .before .before .before .before .before .before .before .before .before .before .before .before in
+    let c27 = c16 .before .before .before .before .before .before .before .before .before .before .before in
+    let c28 = c27 .before in
+    let a = c28 .before .before .before .before .before .before .before .before .before .before .args in
+    let l = c28 .loop in
+    let step = rw (l .inv .2) at (c16 .next-phase .ensures) in
     omega (
       arith,
       c .count-free2 .ensures,
       l .inv .3,
-      walk-falls plusZero (entryOf (a .u .now) (a .n) (a .cols .now) (a .scale .now)) (length (a .cols .now)) (length (a .blocked .now)) (between (length (a .blocked .now)) (l .num) (l .x) (l .free) (l .r .state)) _ step (λ z. omega (arith, l .inv .3, c15 .loop-test .taken)),
+      walk-falls plusZero (entryOf (a .u .now) (a .n) (a .cols .now) (a .scale .now)) (length (a .cols .now)) (length (a .blocked .now)) (between (length (a .blocked .now)) (l .num) (l .x) (l .free) (l .r .state)) _ step (λ z. omega (arith, l .inv .3, c27 .loop-test .taken)),
     )
 
 loop-again : tie.Need-loop-again Inv-loop μ-loop
 loop-again c =
-    let c10 = c .before .before .before .before .before .before .before .before .before .before in
-    let c15 = c10 .before .before .before .before .before in
-    let c16 = c15 .before in
-    let c26 = c16 .before .before .before .before .before .before .before .before .before .before in
-    let a = c26 .args in
-    let l = c16 .loop in
-    let step = rw (l .inv .2) at (c10 .next-phase .ensures) in
-    let kept = c10 .next-phase .kept in (
+    let c16 = c .before .before .before .before .before .before .before .before .before .before .before .before .before .before .before .before in
+    let c27 = c16 .before .before .before .before .before .before .before .before .before .before .before in
+    let c28 = c27 .before in
+    let a = c28 .before .before .before .before .before .before .before .before .before .before .args in
+    let l = c28 .loop in
+    let step = rw (l .inv .2) at (c16 .next-phase .ensures) in
+    let kept = c16 .next-phase .kept in (
       roomy-still _ _ _ _ _ _ _ _ _ (l .inv .0) (kept .0) (kept .1 .0) (kept .1 .1 .0) (kept .1 .1 .1 .0),
       kept .0 ∙ l .inv .1,
       kept .1 .0 ∙ l .inv .2,
       c .count-free2 .ensures,
-      l .inv .4 ∙ walk-turn plusZero (entryOf (a .u .now) (a .n) (a .cols .now) (a .scale .now)) (length (a .cols .now)) (length (a .blocked .now)) (between (length (a .blocked .now)) (l .num) (l .x) (l .free) (l .r .state)) _ step (λ z. omega (arith, l .inv .3, c15 .loop-test .taken)),
+      record {
+        places = kept .1 .1 .1 .1 .1 .1 .1 .1 .1 .0 ∙ l .inv .4 .places;
+        subcols = kept .1 .1 .1 .1 .1 .1 .1 .1 .1 .1 .0 ∙ l .inv .4 .subcols;
+        subscale = kept .1 .1 .1 .1 .1 .1 .1 .1 .1 .1 .1 .0 ∙ l .inv .4 .subscale;
+        subx = kept .1 .1 .1 .1 .1 .1 .1 .1 .1 .1 .1 .1 .0 ∙ l .inv .4 .subx;
+        subfree = kept .1 .1 .1 .1 .1 .1 .1 .1 .1 .1 .1 .1 .1 .0 ∙ l .inv .4 .subfree;
+        g = kept .1 .1 .1 .1 .1 .1 .1 .1 .1 .1 .1 .1 .1 .1 .0 ∙ l .inv .4 .g;
+      },
+      l .inv .5 ∙ walk-turn plusZero (entryOf (a .u .now) (a .n) (a .cols .now) (a .scale .now)) (length (a .cols .now)) (length (a .blocked .now)) (between (length (a .blocked .now)) (l .num) (l .x) (l .free) (l .r .state)) _ step (λ z. omega (arith, l .inv .3, c27 .loop-test .taken)),
     )
 
 same-length : tie.Need-same-length Inv-loop μ-loop
@@ -89,7 +118,7 @@ returns c =
     let c11 = c .before .before .before .before .before .before .before .before .before .before .before in
     let a = c11 .args in
     let l = c .before .loop in
-    sym (l .inv .4 ∙ walk-over plusZero (entryOf (a .u .now) (a .n) (a .cols .now) (a .scale .now)) (length (a .cols .now)) (length (a .blocked .now)) (between (length (a .blocked .now)) (l .num) (l .x) (l .free) (l .r .state)) (omega arith))
+    sym (l .inv .5 ∙ walk-over plusZero (entryOf (a .u .now) (a .n) (a .cols .now) (a .scale .now)) (length (a .cols .now)) (length (a .blocked .now)) (between (length (a .blocked .now)) (l .num) (l .x) (l .free) (l .r .state)) (omega arith))
 
 pub walk-spec : {M : Type 1} → statement M
 walk-spec =
@@ -99,6 +128,12 @@ walk-spec =
     μ-loop
     count-free-requires
     loop-holds
+    slice-aggregate-next-phase
+    slice-aggregate-next-phase-2
+    slice-aggregate-next-phase-3
+    slice-aggregate-next-phase-4
+    slice-aggregate-next-phase-5
+    slice-aggregate-next-phase-6
     next-phase-requires
     count-free-requires-2
     loop-less

@@ -10,47 +10,45 @@ use Rattle.phasing.proofs.phase_on.Tie as tie
 
 choose-words-requires : tie.Need-choose-words-requires
 choose-words-requires c κs =
-    let start = c .before .before .before .before .before .before .before .before .before .before .before .before .before in
+    let start = c .before .before .before .before .before .before .before .before .before .before .before .before .before .before in
     (start .pre .1 .0, start .pre .0 .2)
 
 choose-requires : tie.Need-choose-requires
 choose-requires c κs =
-    let start = c .before .before .before .before .before .before .before .before .before .before .before .before .before .before .before .before .before in
+    let start = c .before .before .before .before .before .before .before .before .before .before .before .before .before .before .before .before .before .before in
     (start .pre .1 .1, rw (start .pre .0 .0 .paired) (start .pre .0 .2))
 
 choose-requires-2 : tie.Need-choose-requires-2
 choose-requires-2 c κs =
-    let start = c .before .before .before .before .before .before .before .before .before .before .before .before .before .before .before .before .before .before .before .before .before .before in
+    let start = c .before .before .before .before .before .before .before .before .before .before .before .before .before .before .before .before .before .before .before .before .before .before .before in
     (start .pre .1 .2, rw (start .pre .0 .1 .wide) (start .pre .0 .2))
 
 phase-requires : tie.Need-phase-requires
 phase-requires c κs =
-    let c8 = c .before .before .before .before .before .before .before .before in
-    let c13 = c8 .before .before .before .before .before in
-    let c17 = c13 .before .before .before .before in
-    let c31 = c17 .before .before .before .before .before .before .before .before .before .before .before .before .before .before in
-    let start = c31 in
+    let c9 = c .before .before .before .before .before .before .before .before .before in
+    let c14 = c9 .before .before .before .before .before in
+    let c18 = c14 .before .before .before .before in
+    let start = c18 .before .before .before .before .before .before .before .before .before .before .before .before .before .before .before in
     let a = start .args in
-    let lc = c17 .choose-words .kept .0 ∙ start .pre .1 .0 in
-    let lx = c8 .choose2 .kept .0 ∙ start .pre .1 .2 in (
-      rw (c17 .choose-words .ensures, c13 .choose .ensures) (chosen-part (a .u .now) (a .n) (a .cols .now) (a .scale .now) (a .places .now) _ (start .pre .0 .0) (start .pre .0 .2) (start .pre .0 .3)),
+    let lc = c18 .choose-words .kept .0 ∙ start .pre .1 .0 in
+    let lx = c9 .choose2 .kept .0 ∙ start .pre .1 .2 in (
+      rw (c18 .choose-words .ensures, c14 .choose .ensures) (chosen-part (a .u .now) (a .n) (a .cols .now) (a .scale .now) (a .places .now) _ (start .pre .0 .0) (start .pre .0 .2) (start .pre .0 .3)),
       rw lc (roomy-part _ (length (a .places .now)) _ _ _ _ _ _ (start .pre .0 .1) (start .pre .0 .3) lx (start .pre .1 .3)),
+      start .pre .1 .4 ∙ sym lc,
     )
 
 put-back-requires : tie.Need-put-back-requires
 put-back-requires c κs =
-    let c10 = c .before .before .before .before .before .before .before .before .before .before in
-    let c19 = c10 .before .before .before .before .before .before .before .before .before in
-    let c42 = c19 .before .before .before .before .before .before .before .before .before .before .before .before .before .before .before .before .before .before .before .before .before .before .before in
-    let start = c42 in
-    (c10 .phase .kept .1 .1 .0 ∙ c19 .choose2 .kept .0 ∙ start .pre .1 .2, rw (start .pre .0 .1 .wide) (start .pre .0 .2))
+    let c12 = c .before .before .before .before .before .before .before .before .before .before .before .before in
+    let c22 = c12 .before .before .before .before .before .before .before .before .before .before in
+    let start = c22 .before .before .before .before .before .before .before .before .before .before .before .before .before .before .before .before .before .before .before .before .before .before .before .before in
+    (c12 .phase .kept .1 .1 .0 ∙ c22 .choose2 .kept .0 ∙ start .pre .1 .2, rw (start .pre .0 .1 .wide) (start .pre .0 .2))
 
 put-back-words-requires : tie.Need-put-back-words-requires
 put-back-words-requires c κs =
-    let c15 = c .before .before .before .before .before .before .before .before .before .before .before .before .before .before .before in
-    let c47 = c15 .before .before .before .before .before .before .before .before .before .before .before .before .before .before .before .before .before .before .before .before .before .before .before .before .before .before .before .before .before .before .before .before in
-    let start = c47 in
-    (c15 .phase .kept .1 .1 .1 .0 ∙ start .pre .1 .3, rw (start .pre .0 .1 .marks) (start .pre .0 .2))
+    let c17 = c .before .before .before .before .before .before .before .before .before .before .before .before .before .before .before .before .before in
+    let start = c17 .before .before .before .before .before .before .before .before .before .before .before .before .before .before .before .before .before .before .before .before .before .before .before .before .before .before .before .before .before .before .before .before .before .before in
+    (c17 .phase .kept .1 .1 .1 .0 ∙ start .pre .1 .3, rw (start .pre .0 .1 .marks) (start .pre .0 .2))
 
 same-length : tie.Need-same-length
 same-length c = search needs
@@ -65,16 +63,10 @@ same-length-4 : tie.Need-same-length-4
 same-length-4 c = search needs
 
 same-length-5 : tie.Need-same-length-5
-same-length-5 c =
-    let c37 = c .before .before .before .before .before .before .before .before .before .before .before .before .before .before .before .before .before .before .before .before .before .before .before .before .before .before .before .before .before .before .before .before .before .before .before .before .before in
-    let c37 = c37 in
-    c37 .choose-words .kept .0
+same-length-5 c = c .before .before .before .before .before .before .before .before .before .before .before .before .before .before .before .before .before .before .before .before .before .before .before .before .before .before .before .before .before .before .before .before .before .before .before .before .before .before .before .before .choose-words .kept .0
 
 same-length-6 : tie.Need-same-length-6
-same-length-6 c =
-    let c33 = c .before .before .before .before .before .before .before .before .before .before .before .before .before .before .before .before .before .before .before .before .before .before .before .before .before .before .before .before .before .before .before .before .before in
-    let c33 = c33 in
-    c33 .choose .kept .0
+same-length-6 c = c .before .before .before .before .before .before .before .before .before .before .before .before .before .before .before .before .before .before .before .before .before .before .before .before .before .before .before .before .before .before .before .before .before .before .before .before .choose .kept .0
 
 same-length-7 : tie.Need-same-length-7
 same-length-7 c = search needs
@@ -82,19 +74,21 @@ same-length-7 c = search needs
 same-length-8 : tie.Need-same-length-8
 same-length-8 c = search needs
 
+same-length-9 : tie.Need-same-length-9
+same-length-9 c = search needs
+
 returns : tie.Need-returns
 returns c =
     let c3 = c .before .before .before in
     let c8 = c3 .before .before .before .before .before in
-    let c19 = c8 .before .before .before .before .before .before .before .before .before .before .before in
-    let c28 = c19 .before .before .before .before .before .before .before .before .before in
-    let c33 = c28 .before .before .before .before .before in
-    let c37 = c33 .before .before .before .before in
-    let c51 = c37 .before .before .before .before .before .before .before .before .before .before .before .before .before .before in
-    let a = c51 .args in
+    let c21 = c8 .before .before .before .before .before .before .before .before .before .before .before .before .before in
+    let c31 = c21 .before .before .before .before .before .before .before .before .before .before in
+    let c36 = c31 .before .before .before .before .before in
+    let c40 = c36 .before .before .before .before in
+    let a = c40 .before .before .before .before .before .before .before .before .before .before .before .before .before .before .before .args in
     phased-at (a .u .now) (a .n) (a .cols .now) (a .scale .now) (a .places .now) (length (a .blocked .now)) (a .rng .state) (a .num .now) (a .x .now) (a .free .now)
-    _ _ _ (c37 .choose-words .ensures) (c33 .choose .ensures) (c28 .choose2 .ensures)
-    _ _ _ _ _ _ (c19 .phase .ensures) refl (ap (λ (r : ℕ). axIn r (c19 .phase .last .0)) (sym (c19 .phase .kept .1 .0))) refl (c8 .put-back .ensures) (c3 .put-back-words .ensures)
+    _ _ _ (c40 .choose-words .ensures) (c36 .choose .ensures) (c31 .choose2 .ensures)
+    _ _ _ _ _ _ (c21 .phase .ensures) refl (ap (λ (r : ℕ). axIn r (c21 .phase .last .0)) (sym (c21 .phase .kept .1 .0))) refl (c8 .put-back .ensures) (c3 .put-back-words .ensures)
 
 pub phase-on-spec : {M : Type 1} → statement M
 phase-on-spec =
@@ -114,4 +108,5 @@ phase-on-spec =
     same-length-6
     same-length-7
     same-length-8
+    same-length-9
     returns)

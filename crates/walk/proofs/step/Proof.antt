@@ -18,13 +18,13 @@ add-base-2 c = search needs
 
 mul-end : tie.Need-mul-end
 mul-end c =
-    let c9 = c .before .before .before .before .before .before .before .before .before in
-    omega (arith, vectors-room (length (c9 .args .cols .now)) (c9 .args .num .now) (c9 .args .blocked .now) (c9 .args .x .now) (c9 .args .free .now) (c9 .args .from .count) (c9 .pre .1))
+    let c8 = c .before .before .before .before .before .before .before .before in
+    omega (arith, vectors-room (length (c8 .args .cols .now)) (c8 .args .num .now) (c8 .args .blocked .now) (c8 .args .x .now) (c8 .args .free .now) (c8 .args .from .count) (c8 .pre .1))
 
 add-end : tie.Need-add-end
 add-end c =
-    let c9 = c .before .before .before .before .before .before .before .before .before in
-    omega (arith, vectors-room (length (c9 .args .cols .now)) (c9 .args .num .now) (c9 .args .blocked .now) (c9 .args .x .now) (c9 .args .free .now) (c9 .args .from .count) (c9 .pre .1))
+    let c8 = c .before .before .before .before .before .before .before .before in
+    omega (arith, vectors-room (length (c8 .args .cols .now)) (c8 .args .num .now) (c8 .args .blocked .now) (c8 .args .x .now) (c8 .args .free .now) (c8 .args .from .count) (c8 .pre .1))
 
 draw-into-requires : tie.Need-draw-into-requires
 draw-into-requires c κs = search needs
@@ -40,8 +40,8 @@ part-direct-start c = search needs
 
 part-direct-end : tie.Need-part-direct-end
 part-direct-end c =
-    let c14 = c .before .before .before .before .before .before .before .before .before .before .before .before .before .before in
-    omega (arith, vectors-room (length (c14 .args .cols .now)) (c14 .args .num .now) (c14 .args .blocked .now) (c14 .args .x .now) (c14 .args .free .now) (c14 .args .from .count) (c14 .pre .1))
+    let c13 = c .before .before .before .before .before .before .before .before .before .before .before .before .before in
+    omega (arith, vectors-room (length (c13 .args .cols .now)) (c13 .args .num .now) (c13 .args .blocked .now) (c13 .args .x .now) (c13 .args .free .now) (c13 .args .from .count) (c13 .pre .1))
 
 direct-requires : tie.Need-direct-requires
 direct-requires c κs = search needs
@@ -59,9 +59,9 @@ returns : tie.Need-returns
 returns c =
     let c3 = c .before .before .before in
     let c10 = c3 .before .before .before .before .before .before .before in
-    let c21 = c10 .before .before .before .before .before .before .before .before .before .before .before in
-    let a = c21 .args in
-    let p = c21 .pre in
+    let c20 = c10 .before .before .before .before .before .before .before .before .before .before in
+    let a = c20 .args in
+    let p = c20 .pre in
     let l = length (a .cols .now) in
     let r = length (a .blocked .now) in
     let m = a .from .count * l in
@@ -72,8 +72,8 @@ advance-requires : tie.Need-advance-requires
 advance-requires c κs =
     let c7 = c .before .before .before .before .before .before .before in
     let c14 = c7 .before .before .before .before .before .before .before in
-    let c25 = c14 .before .before .before .before .before .before .before .before .before .before .before in
-    let p = c25 .pre in
+    let c24 = c14 .before .before .before .before .before .before .before .before .before .before in
+    let p = c24 .pre in
     (p .0, c7 .direct .kept .1 .1 .1 .1 .0 ∙ c14 .draw-into .kept .0 ∙ p .2, p .1 .wide, p .1 .marks, omega (arith, p .1 .room))
 
 same-length-4 : tie.Need-same-length-4
@@ -94,9 +94,9 @@ returns-2 c =
     let c12 = c7 .before .before .before .before .before in
     let c15 = c12 .before .before .before in
     let c22 = c15 .before .before .before .before .before .before .before in
-    let c33 = c22 .before .before .before .before .before .before .before .before .before .before .before in
-    let a = c33 .args in
-    let p = c33 .pre in
+    let c32 = c22 .before .before .before .before .before .before .before .before .before .before in
+    let a = c32 .args in
+    let p = c32 .pre in
     let l = length (a .cols .now) in
     let r = length (a .blocked .now) in
     let m = a .from .count * l in
@@ -106,9 +106,11 @@ returns-2 c =
 freeze-requires : tie.Need-freeze-requires
 freeze-requires c κs =
     let c12 = c .before .before .before .before .before .before .before .before .before .before .before .before in
-    let c38 = c12 .before .before .before .before .before .before .before .before .before .before .before .before .before .before .before .before .before .before .before .before .before .before .before .before .before .before in
-    let p = c38 .pre in
-    (p .0, roomy-kept _ _ (p .1) (c12 .advance .kept .0) (c12 .advance .kept .1 .1 .0), p .3, p .4)
+    let c20 = c12 .before .before .before .before .before .before .before .before in
+    let c27 = c20 .before .before .before .before .before .before .before in
+    let c37 = c27 .before .before .before .before .before .before .before .before .before .before in
+    let p = c37 .pre in
+    (p .0, roomy-kept _ _ (p .1) (c12 .advance .kept .0) (c12 .advance .kept .1 .1 .0), c12 .advance .kept .1 .1 .1 .1 .1 .1 .1 .1 .0 ∙ c20 .direct .kept .1 .1 .1 .1 .0 ∙ c27 .draw-into .kept .0 ∙ p .2, p .3)
 
 same-length-8 : tie.Need-same-length-8
 same-length-8 c = search needs
@@ -124,13 +126,11 @@ same-length-11 c = search needs
 
 same-length-12 : tie.Need-same-length-12
 same-length-12 c =
-    let c24 = c .before .before .before .before .before .before .before .before .before .before .before .before .before .before .before .before .before .before .before .before .before .before .before .before in
+    let c11 = c .before .before .before .before .before .before .before .before .before .before .before in
+    let c24 = c11 .before .before .before .before .before .before .before .before .before .before .before .before .before in
     let c32 = c24 .before .before .before .before .before .before .before .before in
     let c39 = c32 .before .before .before .before .before .before .before in
-    c24 .advance .kept .1 .1 .1 .1 .1 .1 .1 .1 .0 ∙ c32 .direct .kept .1 .1 .1 .1 .0 ∙ c39 .draw-into .kept .0
-
-same-length-13 : tie.Need-same-length-13
-same-length-13 c = search needs
+    c11 .freeze .kept .1 .1 .1 .1 .1 .1 .1 .1 .1 .0 ∙ c24 .advance .kept .1 .1 .1 .1 .1 .1 .1 .1 .0 ∙ c32 .direct .kept .1 .1 .1 .1 .0 ∙ c39 .draw-into .kept .0
 
 returns-3 : tie.Need-returns-3
 returns-3 c =
@@ -140,9 +140,9 @@ returns-3 c =
     let c29 = c24 .before .before .before .before .before in
     let c32 = c29 .before .before .before in
     let c39 = c32 .before .before .before .before .before .before .before in
-    let c50 = c39 .before .before .before .before .before .before .before .before .before .before .before in
-    let a = c50 .args in
-    let p = c50 .pre in
+    let c49 = c39 .before .before .before .before .before .before .before .before .before .before in
+    let a = c49 .args in
+    let p = c49 .pre in
     let l = length (a .cols .now) in
     let r = length (a .blocked .now) in
     let m = a .from .count * l in
@@ -181,5 +181,4 @@ step-spec =
     same-length-10
     same-length-11
     same-length-12
-    same-length-13
     returns-3)

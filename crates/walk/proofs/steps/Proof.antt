@@ -12,45 +12,45 @@ use Rattle.walk.proofs.steps.Statement.{statement}
 use Rattle.walk.proofs.steps.Tie as tie
 
 abbrev Inv-loop : tie.InvT-loop
-Inv-loop num₀ blocked₀ x₀ free₀ u n cols scale g₀ v₀ at₀ num blocked x free g v at =
-    Going (entryOf u n cols scale) (length cols) num₀ blocked₀ x₀ free₀ g₀ v₀ (held num₀ blocked₀ x₀ free₀ (at₀ .count) (at₀ .frozen) (at₀ .rng .state)) num blocked x free g v (at .count) (at .frozen) (at .rng .state)
+Inv-loop num₀ blocked₀ x₀ free₀ u n cols scale g₀ at₀ num blocked x free g at =
+    Going (entryOf u n cols scale) (length cols) num₀ blocked₀ x₀ free₀ g₀ (held num₀ blocked₀ x₀ free₀ (at₀ .count) (at₀ .frozen) (at₀ .rng .state)) num blocked x free g (at .count) (at .frozen) (at .rng .state)
 
 abbrev μ-loop : tie.MeasureT-loop
-μ-loop num₀ blocked₀ x₀ free₀ u n cols scale g₀ v₀ at₀ num blocked x free g v at = freeOnes free
+μ-loop num₀ blocked₀ x₀ free₀ u n cols scale g₀ at₀ num blocked x free g at = freeOnes free
 
 loop-holds : tie.Need-loop-holds Inv-loop μ-loop
 loop-holds c =
-    let c9 = c .before .before .before .before .before .before .before .before .before in
-    let a = c9 .args in
-    going-start (entryOf (a .u .now) (a .n) (a .cols .now) (a .scale .now)) (length (a .cols .now)) (a .num .now) (a .blocked .now) (a .x .now) (a .free .now) (a .g .now) (a .v .now) (a .from .count) (a .from .frozen) (a .from .rng .state) (c9 .pre .1) (c9 .pre .4)
+    let c8 = c .before .before .before .before .before .before .before .before in
+    let a = c8 .args in
+    going-start (entryOf (a .u .now) (a .n) (a .cols .now) (a .scale .now)) (length (a .cols .now)) (a .num .now) (a .blocked .now) (a .x .now) (a .free .now) (a .g .now) (a .from .count) (a .from .frozen) (a .from .rng .state) (c8 .pre .1) (c8 .pre .3)
 
 step-requires : tie.Need-step-requires Inv-loop μ-loop
 step-requires c κs =
-    let p = c .before .before .before .before .before .before .before .before .before .before .before .before .before .before .before .before .before .before .pre in
-    let i = c .before .before .before .before .before .before .before .before .loop .inv in
-    (rw (i .rows) (p .0), i .roomy, i .gs ∙ p .2, i .vs ∙ p .3, omega (arith, i .few, p .0 .few))
+    let p = c .before .before .before .before .before .before .before .before .before .before .before .before .before .before .before .before .pre in
+    let i = c .before .before .before .before .before .before .before .loop .inv in
+    (rw (i .rows) (p .0), i .roomy, i .gs ∙ p .2, omega (arith, i .few, p .0 .few))
 
 loop-less : tie.Need-loop-less Inv-loop μ-loop
 loop-less c =
-    let c15 = c .before .before .before .before .before .before .before .before .before .before .before .before .before .before .before in
-    let c22 = c15 .before .before .before .before .before .before .before in
-    let c24 = c22 .before .before in
-    let c34 = c24 .before .before .before .before .before .before .before .before .before .before in
-    let a = c34 .args in
-    let s = c24 .loop in
+    let c13 = c .before .before .before .before .before .before .before .before .before .before .before .before .before in
+    let c19 = c13 .before .before .before .before .before .before in
+    let c21 = c19 .before .before in
+    let c30 = c21 .before .before .before .before .before .before .before .before .before in
+    let a = c30 .args in
+    let s = c21 .loop in
     let w = held (a .num .now) (a .blocked .now) (a .x .now) (a .free .now) (a .from .count) (a .from .frozen) (a .from .rng .state) in
-    fewer-free (entryOf (a .u .now) (a .n) (a .cols .now) (a .scale .now)) (length (a .cols .now)) (a .num .now) (a .blocked .now) (a .x .now) (a .free .now) (a .g .now) (a .v .now) w (s .num) (s .blocked) (s .x) (s .free) (s .g) (s .v) (s .at .count) (s .at .frozen) (s .at .rng .state) (s .inv) (c15 .step .last .0) (c15 .step .last .1 .0) (c15 .step .last .1 .1 .0) (c15 .step .last .1 .1 .1 .0) (c15 .step .result) (c22 .if1 .taken) (c15 .step .ensures) (not-false _ (c .if2 .left))
+    fewer-free (entryOf (a .u .now) (a .n) (a .cols .now) (a .scale .now)) (length (a .cols .now)) (a .num .now) (a .blocked .now) (a .x .now) (a .free .now) (a .g .now) w (s .num) (s .blocked) (s .x) (s .free) (s .g) (s .at .count) (s .at .frozen) (s .at .rng .state) (s .inv) (c13 .step .last .0) (c13 .step .last .1 .0) (c13 .step .last .1 .1 .0) (c13 .step .last .1 .1 .1 .0) (c13 .step .result) (c19 .if1 .taken) (c13 .step .ensures) (not-false _ (c .if2 .left))
 
 loop-again : tie.Need-loop-again Inv-loop μ-loop
 loop-again c =
-    let c15 = c .before .before .before .before .before .before .before .before .before .before .before .before .before .before .before in
-    let c22 = c15 .before .before .before .before .before .before .before in
-    let c24 = c22 .before .before in
-    let c34 = c24 .before .before .before .before .before .before .before .before .before .before in
-    let a = c34 .args in
-    let s = c24 .loop in
+    let c13 = c .before .before .before .before .before .before .before .before .before .before .before .before .before in
+    let c19 = c13 .before .before .before .before .before .before in
+    let c21 = c19 .before .before in
+    let c30 = c21 .before .before .before .before .before .before .before .before .before in
+    let a = c30 .args in
+    let s = c21 .loop in
     let w = held (a .num .now) (a .blocked .now) (a .x .now) (a .free .now) (a .from .count) (a .from .frozen) (a .from .rng .state) in
-    going-on (entryOf (a .u .now) (a .n) (a .cols .now) (a .scale .now)) (length (a .cols .now)) (a .num .now) (a .blocked .now) (a .x .now) (a .free .now) (a .g .now) (a .v .now) w (s .num) (s .blocked) (s .x) (s .free) (s .g) (s .v) (s .at .count) (s .at .frozen) (s .at .rng .state) (s .inv) (c15 .step .last .0) (c15 .step .last .1 .0) (c15 .step .last .1 .1 .0) (c15 .step .last .1 .1 .1 .0) (c15 .step .result) (c22 .if1 .taken) (c15 .step .ensures) (c15 .step .last .1 .1 .1 .1 .1 .1 .1 .1 .1 .0) (c15 .step .last .1 .1 .1 .1 .1 .1 .1 .1 .1 .1 .0) (not-false _ (c .if2 .left)) (c15 .step .kept .0) (c15 .step .kept .1 .0) (c15 .step .kept .1 .1 .0) (c15 .step .kept .1 .1 .1 .0) (c15 .step .kept .1 .1 .1 .1 .1 .1 .1 .1 .1 .0) (c15 .step .kept .1 .1 .1 .1 .1 .1 .1 .1 .1 .1 .0)
+    going-on (entryOf (a .u .now) (a .n) (a .cols .now) (a .scale .now)) (length (a .cols .now)) (a .num .now) (a .blocked .now) (a .x .now) (a .free .now) (a .g .now) w (s .num) (s .blocked) (s .x) (s .free) (s .g) (s .at .count) (s .at .frozen) (s .at .rng .state) (s .inv) (c13 .step .last .0) (c13 .step .last .1 .0) (c13 .step .last .1 .1 .0) (c13 .step .last .1 .1 .1 .0) (c13 .step .result) (c19 .if1 .taken) (c13 .step .ensures) (c13 .step .last .1 .1 .1 .1 .1 .1 .1 .1 .1 .0) (not-false _ (c .if2 .left)) (c13 .step .kept .0) (c13 .step .kept .1 .0) (c13 .step .kept .1 .1 .0) (c13 .step .kept .1 .1 .1 .0) (c13 .step .kept .1 .1 .1 .1 .1 .1 .1 .1 .1 .0)
 
 same-length : tie.Need-same-length Inv-loop μ-loop
 same-length c = search needs
@@ -67,17 +67,17 @@ same-length-4 c = search needs
 same-length-5 : tie.Need-same-length-5 Inv-loop μ-loop
 same-length-5 c = search needs
 
-same-length-6 : tie.Need-same-length-6 Inv-loop μ-loop
-same-length-6 c = search needs
-
 returns : tie.Need-returns Inv-loop μ-loop
 returns c =
     let c2 = c .before .before in
-    let c12 = c2 .before .before .before .before .before .before .before .before .before .before in
-    let a = c12 .args in
+    let c11 = c2 .before .before .before .before .before .before .before .before .before in
+    let a = c11 .args in
     let s = c2 .loop in
     let w = held (a .num .now) (a .blocked .now) (a .x .now) (a .free .now) (a .from .count) (a .from .frozen) (a .from .rng .state) in
-    going-full (entryOf (a .u .now) (a .n) (a .cols .now) (a .scale .now)) (length (a .cols .now)) (a .num .now) (a .blocked .now) (a .x .now) (a .free .now) (a .g .now) (a .v .now) w (s .num) (s .blocked) (s .x) (s .free) (s .g) (s .v) (s .at .count) (s .at .frozen) (s .at .rng .state) (s .inv) (c .if1 .left)
+    going-full (entryOf (a .u .now) (a .n) (a .cols .now) (a .scale .now)) (length (a .cols .now)) (a .num .now) (a .blocked .now) (a .x .now) (a .free .now) (a .g .now) w (s .num) (s .blocked) (s .x) (s .free) (s .g) (s .at .count) (s .at .frozen) (s .at .rng .state) (s .inv) (c .if1 .left)
+
+same-length-6 : tie.Need-same-length-6 Inv-loop μ-loop
+same-length-6 c = search needs
 
 same-length-7 : tie.Need-same-length-7 Inv-loop μ-loop
 same-length-7 c = search needs
@@ -91,22 +91,16 @@ same-length-9 c = search needs
 same-length-10 : tie.Need-same-length-10 Inv-loop μ-loop
 same-length-10 c = search needs
 
-same-length-11 : tie.Need-same-length-11 Inv-loop μ-loop
-same-length-11 c = search needs
-
-same-length-12 : tie.Need-same-length-12 Inv-loop μ-loop
-same-length-12 c = search needs
-
 returns-2 : tie.Need-returns-2 Inv-loop μ-loop
 returns-2 c =
-    let c15 = c .before .before .before .before .before .before .before .before .before .before .before .before .before .before .before in
-    let c22 = c15 .before .before .before .before .before .before .before in
-    let c24 = c22 .before .before in
-    let c34 = c24 .before .before .before .before .before .before .before .before .before .before in
-    let a = c34 .args in
-    let s = c24 .loop in
+    let c13 = c .before .before .before .before .before .before .before .before .before .before .before .before .before in
+    let c19 = c13 .before .before .before .before .before .before in
+    let c21 = c19 .before .before in
+    let c30 = c21 .before .before .before .before .before .before .before .before .before in
+    let a = c30 .args in
+    let s = c21 .loop in
     let w = held (a .num .now) (a .blocked .now) (a .x .now) (a .free .now) (a .from .count) (a .from .frozen) (a .from .rng .state) in
-    going-last (entryOf (a .u .now) (a .n) (a .cols .now) (a .scale .now)) (length (a .cols .now)) (a .num .now) (a .blocked .now) (a .x .now) (a .free .now) (a .g .now) (a .v .now) w (s .num) (s .blocked) (s .x) (s .free) (s .g) (s .v) (s .at .count) (s .at .frozen) (s .at .rng .state) (s .inv) (c15 .step .last .0) (c15 .step .last .1 .0) (c15 .step .last .1 .1 .0) (c15 .step .last .1 .1 .1 .0) (c15 .step .result) (c22 .if1 .taken) (c15 .step .ensures) (not-true _ (c .if2 .taken))
+    going-last (entryOf (a .u .now) (a .n) (a .cols .now) (a .scale .now)) (length (a .cols .now)) (a .num .now) (a .blocked .now) (a .x .now) (a .free .now) (a .g .now) w (s .num) (s .blocked) (s .x) (s .free) (s .g) (s .at .count) (s .at .frozen) (s .at .rng .state) (s .inv) (c13 .step .last .0) (c13 .step .last .1 .0) (c13 .step .last .1 .1 .0) (c13 .step .last .1 .1 .1 .0) (c13 .step .result) (c19 .if1 .taken) (c13 .step .ensures) (not-true _ (c .if2 .taken))
 
 pub steps-spec : {M : Type 1} → statement M
 steps-spec =
@@ -123,12 +117,10 @@ steps-spec =
     same-length-3
     same-length-4
     same-length-5
-    same-length-6
     returns
+    same-length-6
     same-length-7
     same-length-8
     same-length-9
     same-length-10
-    same-length-11
-    same-length-12
     returns-2)
