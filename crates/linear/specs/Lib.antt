@@ -2,3 +2,4 @@
 pub mod Vectors
 pub mod Basis
 pub mod Held
+pub mod Larger

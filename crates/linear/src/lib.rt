@@ -8,6 +8,7 @@ ghost use lib.ListN.{length};
 ghost use Rattle.seq.specs.Lists.{tabulate};
 ghost use Rattle.seq.specs.Sums.{plusZero};
 ghost use Rattle.linear.specs.Vectors.{dotOf, normOf, maxAbsOf};
+ghost use Rattle.linear.specs.Larger.{NoLarger};
 ghost use Rattle.linear.specs.Basis.{lessAt, passTo, projected, overAt};
 ghost use Rattle.linear.specs.Held.{vectorsIn, Inserted};
 
@@ -125,15 +126,29 @@ pub fn norm(a: &[f64]) -> f64
     sqrt(dot(a, a))
 }
 
-// The largest magnitude, a NaN skipped; 0.0 of none.
+// The first place from `from` on whose magnitude is above `most`, or where the places end.
+fn next_larger(a: &[f64], from: usize, most: f64) -> usize
+    ensures { λ r. ⌜ NoLarger (now (a .entry)) most from r ⌝ }
+{
+    let mut i = from;
+    while i < a.len() {
+        if most < abs(a[i]) {
+            return i;
+        }
+        i += 1;
+    }
+    i
+}
+
+// The largest magnitude, a NaN skipped; 0.0 of none. What is not above the largest so far is passed over, so that no place waits for the one before.
 pub fn max_abs(a: &[f64]) -> f64
     ensures { λ r. ⌜ r ≡ maxAbsOf (now (a .entry)) ⌝ }
 {
     let mut most = 0.0;
-    let mut i = 0usize;
+    let mut i = next_larger(a, 0, most);
     while i < a.len() {
         most = larger(most, abs(a[i]));
-        i += 1;
+        i = next_larger(a, i + 1, most);
     }
     most
 }
