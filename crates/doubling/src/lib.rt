@@ -4,7 +4,7 @@ ghost use Prim.Native.Nat.{_≤_};
 ghost use lib.ListN.{length};
 ghost use Rattle.seq.specs.Lists.{tabulate};
 ghost use Rattle.seq.specs.Keep.{Pushed};
-ghost use Rattle.weights.specs.Indices.{Below};
+ghost use Rattle.seq.specs.Indices.{Below};
 ghost use Rattle.doubling.specs.Doubling.{remaining, scaleAt, sigmaOf, halvedTo};
 
 // The remaining rest at the front of out; how many.

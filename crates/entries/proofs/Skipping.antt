@@ -20,7 +20,7 @@ use Rattle.ieee.proofs.Zeros.{plus-nothing, sum-fits, sum-never-minus, nonzero-
 use Rattle.ieee.proofs.Skips.{mul-by-zero}
 use Rattle.entries.specs.Entries.{entryOf, Chosen}
 use Rattle.columns.specs.Kernels.{plusAt, plusTwo}
-use Rattle.entries.specs.Passed.{Passed}
+use Rattle.entries.specs.PassedOver.{PassedOver}
 use Rattle.entries.specs.Rows.{times}
 
 -- terms that are zeros add nothing
@@ -37,7 +37,7 @@ more-zeros v a (suc d) h z =
     nothing = plus-nothing binary64 (sumTo plusZero v (a + d)) (v (a + d)) (sum-fits binary64 v (a + d)) (h (a + d)) (sum-never-minus binary64 v (a + d) (λ j l. h j)) (z (a + d) (omega arith) (omega arith))
 
 -- no place, and one place more, is passed over
-pub passed-none : (scale g : List Float) (from : ℕ) → Passed scale g from from
+pub passed-none : (scale g : List Float) (from : ℕ) → PassedOver scale g from from
 passed-none scale g from =
     record { low = omega arith; high = omega arith; inside = λ h. h; nothing = λ k l m. absurd (omega arith) }
 
@@ -49,7 +49,7 @@ zero-is : (x : Float) → ne x plusZero ≡ false → T (isZero x)
 unfolding ofBits
 zero-is x e = is (isZero x) (sym (nonzero-not-zero x) ∙ e)
 
-pub passed-more : {scale g : List Float} {from p : ℕ} → Passed scale g from p → p < length g → ne (at g p) plusZero ≡ false → not (finite (at scale p)) ≡ false → Passed scale g from (p + 1)
+pub passed-more : {scale g : List Float} {from p : ℕ} → PassedOver scale g from p → p < length g → ne (at g p) plusZero ≡ false → not (finite (at scale p)) ≡ false → PassedOver scale g from (p + 1)
 passed-more {scale} {g} {from} {p} s h z e =
     record {
       low = omega (arith, s .low);
@@ -70,14 +70,14 @@ module _ (u : List Float) (n : ℕ) (cols : List ℕ) (scale g : List Float) (ro
   term i q = mul binary64 (a q i) (at g q)
 
   -- a row's sum up to `from` is its sum up to r
-  row-passed : (from r i : ℕ) → Passed scale g from r → r ≤ length cols → sumTo plusZero (term i) r ≡ sumTo plusZero (term i) from
+  row-passed : (from r i : ℕ) → PassedOver scale g from r → r ≤ length cols → sumTo plusZero (term i) r ≡ sumTo plusZero (term i) from
   row-passed from r i s l =
       let d : from + (r - from) ≡ r = omega (arith, s .low) in
       sym (ap (sumTo plusZero (term i)) d)
       ∙ more-zeros (term i) from (r - from) (λ k. mul-fits binary64 (a k i) (at g k))
       (λ k h m. let e = s .nothing k h (omega arith) in mul-by-zero binary64 (a k i) (at g k) (c .sound k i (omega arith) (e .1)) (e .0))
 
-  pub times-passed : (from r : ℕ) (acc : List Float) (k : ℕ) → acc ≡ times plusZero a from k g → Passed scale g from r → r ≤ length cols → acc ≡ times plusZero a r k g
+  pub times-passed : (from r : ℕ) (acc : List Float) (k : ℕ) → acc ≡ times plusZero a from k g → PassedOver scale g from r → r ≤ length cols → acc ≡ times plusZero a r k g
   times-passed from r acc k e s l = e ∙ tab-cong _ _ k (λ i h. sym (row-passed from r i s l))
 
   -- one column more
@@ -88,7 +88,7 @@ module _ (u : List Float) (n : ℕ) (cols : List ℕ) (scale g : List Float) (ro
       rw (getD-tab (λ j. sumTo plusZero (term j) p) k i nan h, sum-more binary64 plusZero (term i) p)))
 
   -- two columns more, with none that adds something between them
-  pub two-added : (p q : ℕ) (acc : List Float) (k : ℕ) → acc ≡ times plusZero a p k g → Passed scale g (p + 1) q → q ≤ length cols
+  pub two-added : (p q : ℕ) (acc : List Float) (k : ℕ) → acc ≡ times plusZero a p k g → PassedOver scale g (p + 1) q → q ≤ length cols
       → tabulate (plusTwo (a p) (at g p) (a q) (at g q) acc) (length acc) ≡ times plusZero a (q + 1) k g
   two-added p q acc k e s l =
       rw (e, length-tab)

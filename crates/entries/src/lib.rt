@@ -13,7 +13,7 @@ ghost use Rattle.seq.specs.Sums.{plusZero, at};
 ghost use Rattle.entries.specs.Rows.{rowOf, rowNorms, times};
 ghost use Rattle.entries.specs.Entries.{entryOf, Chosen};
 ghost use Rattle.columns.specs.Kernels.{plusAt, plusTwo};
-ghost use Rattle.entries.specs.Passed.{Passed};
+ghost use Rattle.entries.specs.PassedOver.{PassedOver};
 
 // The entry at row i of column p.
 fn entry(u: &[f64], n: usize, cols: &[u32], scale: &[f64], p: usize, i: usize) -> f64
@@ -45,7 +45,7 @@ pub fn row_into(v: &mut [f64], u: &[f64], n: usize, cols: &[u32], scale: &[f64],
 // column's entries are finite too, and it adds nothing.
 fn next_live(scale: &[f64], g: &[f64], from: usize) -> usize
     requires { ⌜ length (now scale) ≡ length (now g) ⌝ }
-    ensures { λ r. ⌜ Passed (now (scale .entry)) (now (g .entry)) from r ⌝ }
+    ensures { λ r. ⌜ PassedOver (now (scale .entry)) (now (g .entry)) from r ⌝ }
 {
     let mut p = from;
     while p < g.len() {

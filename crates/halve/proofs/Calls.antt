@@ -8,8 +8,8 @@ use lib.ListN.{length, take}
 use lib.Seq.{length-take-le}
 use lib.Ieee.{Float}
 use Rattle.seq.specs.Keep.{Pushed}
+use Rattle.seq.specs.Indices.{Below}
 use Rattle.weights.specs.Weights.{isOn}
-use Rattle.weights.specs.Indices.{Below}
 use Rattle.doubling.specs.Doubling.{remaining}
 use Rattle.doubling.proofs.Turns.{those-short}
 use Rattle.doubling.proofs.Once.{every-at, every-those}

@@ -8,7 +8,7 @@ use lib.Ieee.{Float}
 use Rattle.limits.specs.Limits.{bounded}
 use Rattle.direction.specs.Constants.{one}
 use Rattle.coloring.specs.Coloring.{Colored}
-use Rattle.weights.specs.Indices.{Below}
+use Rattle.seq.specs.Indices.{Below}
 use Rattle.doubling.specs.Doubling.{halvedTo, sigmaOf}
 use Rattle.halve.specs.Halve.{Halved}
 

@@ -9,9 +9,9 @@ ghost use mathlib.Core.Path.{_≡_};
 ghost use Prim.Native.Nat.{suc, _≤_};
 ghost use lib.ListN.{length};
 ghost use Rattle.seq.specs.Sums.{plusZero};
+ghost use Rattle.seq.specs.Indices.{Below};
 ghost use Rattle.coloring.specs.Coloring.{coloringOf};
 ghost use Rattle.limits.specs.Matrix.{columnsOf};
-ghost use Rattle.weights.specs.Indices.{Below};
 ghost use Rattle.halve.specs.Halve.{scaledColumns, halvedOnce};
 ghost use Rattle.halve.specs.Handed.{halvesOf, Lent, HalvedBy, Ready};
 

@@ -15,6 +15,7 @@ use Rattle.seq.specs.Choice.{pick}
 use Rattle.seq.specs.Lists.{tabulate, repeated}
 use Rattle.seq.specs.Sums.{plusZero, at}
 use Rattle.seq.specs.Keep.{keep, Pushed}
+use Rattle.seq.specs.Indices.{Below}
 use Rattle.seq.proofs.Filling.{length-tab, getD-tab}
 use Rattle.seq.proofs.Keeping.{keep-short, keep-good}
 use Rattle.order.specs.Order.{isSet}
@@ -25,7 +26,7 @@ use Rattle.walk.specs.Walk.{phaseOf}
 use Rattle.freeze.specs.Held.{axIn, Roomy}
 use Rattle.places.specs.Places.{chosen, putBack, roundedAt}
 use Rattle.phasing.specs.Phase.{Between, roundedOff, phased}
-use Rattle.places.specs.Places.{Below, wordsAt}
+use Rattle.places.specs.Places.{wordsAt}
 use Rattle.phasing.specs.Phasing.{between, insideOf, PhasedAt}
 use Rattle.walk.proofs.SameEntries.{begun-same, phase-same}
 

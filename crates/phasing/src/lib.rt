@@ -12,9 +12,9 @@ ghost use mathlib.Core.Path.{_≡_};
 ghost use Prim.Native.Nat.{_≤_};
 ghost use lib.ListN.{length};
 ghost use Rattle.seq.specs.Sums.{plusZero};
+ghost use Rattle.seq.specs.Indices.{Below};
 ghost use Rattle.entries.specs.Entries.{entryOf, Chosen};
 ghost use Rattle.freeze.specs.Held.{Roomy};
-ghost use Rattle.places.specs.Places.{Below};
 ghost use Rattle.phasing.specs.Phase.{phased};
 ghost use Rattle.phasing.specs.Phasing.{between, PhasedAt};
 

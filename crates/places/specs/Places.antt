@@ -1,5 +1,5 @@
 -- The places of a vector: what is chosen there, put back there, and rounded there.
-use Prim.Native.Nat.{ℕ, zero, suc, _<_}
+use Prim.Native.Nat.{ℕ, zero, suc}
 use mathlib.Core.List.{List}
 use lib.ListN.{length, getD, set}
 use lib.Ieee.{Float, le}
@@ -8,10 +8,6 @@ use Rattle.seq.specs.Lists.{tabulate}
 use Rattle.seq.specs.Sums.{plusZero, at}
 use Rattle.direction.specs.Constants.{one, minusOne}
 use Rattle.order.specs.Order.{isSet}
-
--- every place is below k
-pub record Below (places : List ℕ) (k : ℕ) : Type 0 where
-  pub below : (p : ℕ) → p < length places → getD places p 0 < k
 
 -- the words of v at some places
 abbrev pub wordsAt : List ℕ → List ℕ → List ℕ

@@ -1,3 +1,2 @@
--- Weights, and indices of them.
+-- Weights.
 pub mod Weights
-pub mod Indices

@@ -3,13 +3,13 @@ use borrow.Author.Needs.{needs}
 use Prim.Native.Nat.{_-_}
 use native.Mathlib.Omega.{arith}
 use lib.ListN.{length}
-use Rattle.entries.specs.Passed.{Passed}
+use Rattle.entries.specs.PassedOver.{PassedOver}
 use Rattle.entries.proofs.Skipping.{passed-none, passed-more}
 use Rattle.entries.proofs.next_live.Statement.{statement}
 use Rattle.entries.proofs.next_live.Tie as tie
 
 abbrev Inv-loop : tie.InvT-loop
-Inv-loop scale g from p₀ p = Passed scale g from p
+Inv-loop scale g from p₀ p = PassedOver scale g from p
 
 abbrev μ-loop : tie.MeasureT-loop
 μ-loop scale g from p₀ p = length g - p

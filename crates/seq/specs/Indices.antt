@@ -1,4 +1,4 @@
--- Indices of weights.
+-- Indices of a list.
 use Prim.Native.Nat.{ℕ, _<_}
 use mathlib.Core.List.{List}
 use lib.ListN.{length, getD}

@@ -9,7 +9,7 @@ use Rattle.seq.specs.Sums.{at}
 use Rattle.ieee.specs.Flat.{isZero}
 
 -- from `from` up to r, g is a zero and the scale finite; r is past the end only where `from` is
-pub record Passed (scale g : List Float) (from r : ℕ) : Type 0 where
+pub record PassedOver (scale g : List Float) (from r : ℕ) : Type 0 where
   pub low : from ≤ r
   pub high : r ≤ from + length g
   pub inside : from ≤ length g → r ≤ length g
