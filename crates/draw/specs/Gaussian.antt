@@ -3,7 +3,7 @@ use Prim.Native.Nat.{ℕ}
 use mathlib.Core.Bool.{false}
 use lib.IntN.{pos}
 use lib.Ieee.{Float, fin, binary64, mul, neg}
-use Rattle.ieee.specs.Root.{sqrtOf}
+use Rattle.root.specs.Root.{sqrtOf}
 use Rattle.draw.specs.SplitMix.{outputOf, afterOf}
 use Rattle.draw.specs.Uniform.{uniformOf}
 use Rattle.cosine.specs.Cosine.{cosOf, tau}

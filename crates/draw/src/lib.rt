@@ -2,8 +2,8 @@
 use cosine::cos;
 use cosine::cos_sums;
 use cosine::unit;
-use ieee::sqrt;
 use logarithm::ln;
+use root::sqrt;
 use std::num::wrapping_add_u64;
 use wide::lower;
 ghost use mathlib.Core.Path.{_≡_};

@@ -12,7 +12,6 @@ use Rattle.seq.specs.Choice.{pick}
 use Rattle.seq.specs.Sums.{sumFrom, sumTo, plusZero, minusZero}
 use Rattle.ieee.specs.Flat.{flat, Alike, isZero}
 use Rattle.ieee.specs.Magnitude.{absOf, clampOf, largerOf, smallerOf, aboveOf, largestTo}
-use Rattle.ieee.specs.Root.{sqrtOf}
 use Rattle.ieee.specs.Pass.{sumUp}
 use Rattle.ieee.proofs.Signs.{nought-is}
 use Rattle.ieee.proofs.Flat.{abs-flat, add-flat, div-flat, eq-flat, le-flat, lt-flat, mul-flat, ne-flat, neg-flat, sub-flat}
@@ -33,7 +32,7 @@ pub alike-zeros : (s t : Bool) → Alike (fin s 0 (pos 0)) (fin t 0 (pos 0))
 alike-zeros s t = record { flatly = refl }
 
 -- ---- functions of one and of two values
-one : (g : Float → Float) → ((x : Float) → flat (g x) ≡ flat (g (flat x))) → {x y : Float} → Alike x y → Alike (g x) (g y)
+pub one : (g : Float → Float) → ((x : Float) → flat (g x) ≡ flat (g (flat x))) → {x y : Float} → Alike x y → Alike (g x) (g y)
 one g h {x} {y} p = record { flatly = h x ∙ ap (λ (z : Float). flat (g z)) (p .flatly) ∙ sym (h y) }
 
 both : (g : Float → Float → Float) → ((x y : Float) → flat (g x y) ≡ flat (g (flat x) (flat y))) → {x x' y y' : Float} → Alike x x' → Alike y y' → Alike (g x y) (g x' y')
@@ -163,16 +162,6 @@ above-picks (fin s m e) b = refl
 
 pub above-alike : {a a' b b' : Float} → Alike a a' → Alike b b' → aboveOf a b ≡ aboveOf a' b'
 above-alike {a} {a'} {b} {b'} p q = above-picks a b ∙ (λ i. pick (nan-alike p i) (not (nan-alike q i)) (lt-alike (abs-alike q) (abs-alike p) i)) ∙ sym (above-picks a' b')
-
-sqrt-flat : (x : Float) → flat (sqrtOf x) ≡ flat (sqrtOf (flat x))
-unfolding sqrtOf
-sqrt-flat nan = refl
-sqrt-flat (inf s) = refl
-sqrt-flat (fin s zero e) = refl
-sqrt-flat (fin s (suc m) e) = refl
-
-pub sqrt-alike : {x y : Float} → Alike x y → Alike (sqrtOf x) (sqrtOf y)
-sqrt-alike p = one sqrtOf sqrt-flat p
 
 pub largest-alike : (v w : ℕ → Float) (k : ℕ) → ((j : ℕ) → j < k → Alike (v j) (w j)) → Alike (largestTo v k) (largestTo w k)
 unfolding largestTo

@@ -8,7 +8,6 @@ use mathlib.Core.Bool.{Bool, true, false, not}
 use lib.Dec.{T}
 use Rattle.seq.specs.Choice.{pick}
 use Rattle.seq.specs.Keep.{count}
-use Rattle.ieee.proofs.RootGuess.{here}
 
 pub count-le : (p q : ℕ → Bool) (k : ℕ) → ((j : ℕ) → j < k → T (p j) → T (q j)) → count p k ≤ count q k
 unfolding count

@@ -1,4 +1,4 @@
--- The laws of binary64 on which the proofs above this crate lean; the last ones, from `Magnitudes` on, carry the proofs of its own functions.
+-- The laws of binary64 on which the proofs above this crate lean; the last, `Magnitudes`, carries the proofs of its own functions.
 pub mod Grid
 pub mod Units
 pub mod Ranks
@@ -23,10 +23,3 @@ pub mod Maximum
 pub mod ByMagnitude
 pub mod Results
 pub mod Magnitudes
-pub mod RootFloor
-pub mod RootRounding
-pub mod RootPattern
-pub mod RootDigits
-pub mod RootGuess
-pub mod RootCases
-pub mod RootNearest

@@ -1,20 +1,15 @@
--- What the functions of this crate give is a value of the format, where their arguments are; a root of what is not negative is not negative; and of magnitudes the larger is no -0.0.
-use mathlib.Core.Path.{_≡_}
-use Prim.Native.Nat.{ℕ, zero, suc, _+_, _*_, _^_, _<_}
+-- What the functions of this crate give is a value of the format, where their arguments are; and of magnitudes the larger is no -0.0.
+use Prim.Native.Nat.{ℕ, zero, suc, _<_}
 use native.Mathlib.Nat.{le-trans, le-suc, lt-suc-self}
-use mathlib.Core.Bool.{Bool, true, false, not, true≢false}
+use mathlib.Core.Bool.{Bool, true, false, not}
 use lib.IntN.{pos}
 use lib.Dec.{T}
-use lib.Ieee.{Float, nan, inf, fin, Format, binary64, fits, isNan, lt}
-use lib.Ieee.Fits.{nan-fits, round-fits}
+use lib.Ieee.{Float, nan, inf, fin, Format, fits, isNan, lt}
+use lib.Ieee.Fits.{nan-fits}
 use Rattle.seq.specs.Choice.{pick}
-use Rattle.ieee.specs.Units.{sign, isNum}
 use Rattle.ieee.specs.Flat.{isMinusZero}
 use Rattle.ieee.specs.Magnitude.{signumOf, clampOf, largerOf, smallerOf, largestTo}
-use Rattle.ieee.specs.Root.{floorRoot, sticky, rootOf, sqrtOf}
-use Rattle.ieee.proofs.Grid.{rounded}
 use Rattle.ieee.proofs.Signs.{nought-finite}
-use Rattle.ieee.proofs.Sums.{Size}
 use Rattle.ieee.proofs.Division.{signed-unit}
 
 -- ---- a choice between two has what both have
@@ -56,30 +51,3 @@ largest-fits f v k h = largest-has (λ (z : Float). T (fits f z)) v k (nought-fi
 
 pub largest-not-minus : (v : ℕ → Float) (k : ℕ) → ((j : ℕ) → j < k → T (not (isMinusZero (v j)))) → T (not (isMinusZero (largestTo v k)))
 largest-not-minus v k h = largest-has (λ (z : Float). T (not (isMinusZero z))) v k tt h
-
--- ---- the root
-root-fits : (n : ℕ) → T (fits binary64 (rootOf n))
-unfolding rootOf
-root-fits n = round-fits binary64 false (2 * floorRoot (n * 4 ^ 54) + sticky (n * 4 ^ 54) (floorRoot (n * 4 ^ 54))) (2 ^ 592)
-
-root-rounded : (n : ℕ) → (T (isNum (rootOf n))) × (sign (rootOf n) ≡ false)
-unfolding rootOf
-root-rounded n = let r = rounded binary64 false (2 * floorRoot (n * 4 ^ 54) + sticky (n * 4 ^ 54) (floorRoot (n * 4 ^ 54))) (2 ^ 592) in (r .number, r .signed)
-
-pub sqrt-fits : (x : Float) → T (fits binary64 x) → T (fits binary64 (sqrtOf x))
-unfolding sqrtOf
-sqrt-fits nan h = nan-fits binary64
-sqrt-fits (inf true) h = unfold fits in tt
-sqrt-fits (inf false) h = unfold fits in tt
-sqrt-fits (fin s zero e) h = h
-sqrt-fits (fin true (suc m) e) h = nan-fits binary64
-sqrt-fits (fin false (suc m) e) h = root-fits _
-
-pub sqrt-size : (x : Float) → Size binary64 x → Size binary64 (sqrtOf x)
-unfolding sqrtOf
-sqrt-size nan h = absurd (h .number .num)
-sqrt-size (inf true) h = absurd (true≢false (h .plus))
-sqrt-size (inf false) h = h
-sqrt-size (fin s zero e) h = h
-sqrt-size (fin true (suc m) e) h = absurd (true≢false (h .plus))
-sqrt-size (fin false (suc m) e) h = record { number = record { held = root-fits _; num = root-rounded _ .0 }; plus = root-rounded _ .1 }

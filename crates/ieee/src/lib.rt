@@ -1,11 +1,8 @@
-// What IEEE 754 and Rust have for doubles and the language lacks: magnitude, sign, order, the square root.
+// What IEEE 754 and Rust have for doubles and the language lacks: magnitude, sign, order.
 // Each function answers for every double, a NaN and the infinities included.
 ghost use mathlib.Core.Path.{_≡_};
 ghost use lib.Ieee.Scale.{finite};
 ghost use Rattle.ieee.specs.Magnitude.{absOf, signumOf, clampOf, largerOf, smallerOf, aboveOf};
-ghost use Rattle.ieee.specs.Root.{sqrtOf};
-
-mod root;
 
 // The magnitude of x: of x and 0.0 - x the larger, which for a zero is +0.0. It compiles to a difference and a maximum, with no branch.
 pub fn abs(x: f64) -> f64
@@ -69,22 +66,4 @@ pub fn is_finite(x: f64) -> bool
     ensures { λ r. ⌜ r ≡ finite x ⌝ }
 {
     abs(x) < 1.0 / 0.0
-}
-
-// The square root of x: the double nearest to it. A zero stays as it is, and below zero it is a NaN.
-pub fn sqrt(x: f64) -> f64
-    ensures { λ r. ⌜ r ≡ sqrtOf x ⌝ }
-{
-    if x > 0.0 {
-        let b = f64::to_bits(x);
-        if b == 0x7ff0_0000_0000_0000 {
-            x
-        } else {
-            f64::from_bits(root::pattern(b))
-        }
-    } else if x == 0.0 {
-        x
-    } else {
-        0.0 / 0.0
-    }
 }

@@ -9,7 +9,7 @@ use sparsification::Answer;
 use sparsification::sparsify;
 use sparsification::sparsify_within;
 ghost use mathlib.Core.Path.{_≡_};
-ghost use Rattle.ieee.specs.Root.{sqrtOf};
+ghost use Rattle.root.specs.Root.{sqrtOf};
 ghost use Rattle.draw.specs.SplitMix.{outputOf, afterOf};
 ghost use Rattle.draw.specs.Uniform.{uniformOf};
 ghost use Rattle.draw.specs.Gaussian.{lnOfDraw, cosOfDraw, gaussianOf, afterGaussian};
@@ -45,7 +45,7 @@ pub extern "C" fn knob_gaussian(state: &mut u64) -> f64
 pub extern "C" fn knob_sqrt(x: f64) -> f64
     ensures { λ r. ⌜ r ≡ sqrtOf x ⌝ }
 {
-    ieee::sqrt(x)
+    root::sqrt(x)
 }
 
 // The logarithm of the uniform of this output of the generator.

@@ -5,7 +5,7 @@ use lib.ListN.{length}
 use lib.Ieee.{Float}
 use Rattle.seq.specs.Sums.{plusZero, sumTo, at, product}
 use Rattle.ieee.specs.Magnitude.{absOf, largerOf}
-use Rattle.ieee.specs.Root.{sqrtOf}
+use Rattle.root.specs.Root.{sqrtOf}
 
 -- the sum of the products, in order
 unfoldable pub dotOf : Float → List Float → List Float → Float

@@ -1,7 +1,7 @@
 // Vectors and an orthonormal basis: dot, norm, max_abs, and Basis with project_out and insert, as 000 has them.
 use ieee::abs;
 use ieee::larger;
-use ieee::sqrt;
+use root::sqrt;
 ghost use mathlib.Core.Path.{_≡_};
 ghost use Prim.Native.Nat.{_≤_, _*_, _+_};
 ghost use lib.ListN.{length};

@@ -15,13 +15,13 @@ use Rattle.seq.specs.Sums.{plusZero, sumFrom, sumTo, at, product}
 use Rattle.seq.proofs.Filling.{length-tab, getD-tab}
 use Rattle.ieee.specs.Flat.{isZero}
 use Rattle.ieee.specs.Units.{isNum}
-use Rattle.ieee.specs.Root.{sqrtOf}
+use Rattle.root.specs.Root.{sqrtOf}
 use Rattle.ieee.proofs.Grid.{rounded}
 use Rattle.ieee.proofs.Ranks.{mag→le}
 use Rattle.ieee.proofs.Ops.{finite-number}
 use Rattle.ieee.proofs.Signs.{nought, nought-finite, mag-nought}
 use Rattle.ieee.proofs.Sums.{Size, sum-size}
-use Rattle.ieee.proofs.Results.{sqrt-size}
+use Rattle.root.proofs.RootResults.{sqrt-size}
 use Rattle.ieee.proofs.Alikes.{alike-refl, le-alike, sum-up-is}
 use Rattle.linear.specs.Vectors.{dotOf, normOf}
 use Rattle.linear.specs.Basis.{lessAt, stripped, passTo, projected, dropTolerance, taken}

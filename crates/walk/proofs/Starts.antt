@@ -13,8 +13,9 @@ use Rattle.seq.specs.Sort.{sorted}
 use Rattle.ieee.specs.Flat.{flat, Alike, isZero}
 use Rattle.ieee.specs.Magnitude.{absOf}
 use Rattle.ieee.proofs.Signs.{nought}
-use Rattle.ieee.proofs.Alikes.{alike-refl, alike-of-eq, add-alike, sub-alike, mul-alike, div-alike, neg-alike, abs-alike, zero-alike, lt-alike, le-alike, eq-alike, pick-alike, smaller-alike, clamp-alike, above-alike, sqrt-alike, sum-alike}
+use Rattle.ieee.proofs.Alikes.{alike-refl, alike-of-eq, add-alike, sub-alike, mul-alike, div-alike, neg-alike, abs-alike, zero-alike, lt-alike, le-alike, eq-alike, pick-alike, smaller-alike, clamp-alike, above-alike, sum-alike}
 use Rattle.ieee.proofs.Equality.{signum-alike}
+use Rattle.root.proofs.RootResults.{sqrt-alike}
 use Rattle.linear.specs.Vectors.{dotOf, normOf}
 use Rattle.linear.specs.Basis.{lessAt, stripped, passTo, projected, dropTolerance, taken, overAt, unit, inserted}
 use Rattle.entries.specs.Rows.{rowOf, rowNorm, rowNorms, timesAt, times, firstRows}

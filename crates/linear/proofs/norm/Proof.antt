@@ -1,6 +1,6 @@
 -- `linear::norm` meets its contract: the root of what `dot` gives.
 use Rattle.linear.specs.Vectors.{normOf}
-use Rattle.ieee.specs.Root.{sqrtOf}
+use Rattle.root.specs.Root.{sqrtOf}
 use borrow.Author.Needs.{needs}
 use mathlib.Core.Path.{ap, _∙_}
 use Rattle.linear.proofs.norm.Statement.{statement}

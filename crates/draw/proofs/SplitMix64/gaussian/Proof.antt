@@ -5,7 +5,7 @@ use mathlib.Core.Bool.{false}
 use mathlib.Core.Path.{_≡_, refl, ap, _∙_}
 use lib.IntN.{pos}
 use lib.Ieee.{Float, fin, binary64, mul, neg, ofBits}
-use Rattle.ieee.specs.Root.{sqrtOf}
+use Rattle.root.specs.Root.{sqrtOf}
 use Rattle.draw.specs.SplitMix.{outputOf, afterOf}
 use Rattle.draw.specs.Uniform.{uniformOf}
 use Rattle.cosine.specs.Cosine.{cosOf, tau}

@@ -1,12 +1,12 @@
--- `ieee::root::digit_by_digit` meets its contract. After i turns q * q + rem is m * 2 ^ 54's upper i pairs of digits, and q its root: rem ≤ 2 * q.
+-- `root::digit_by_digit` meets its contract. After i turns q * q + rem is m * 2 ^ 54's upper i pairs of digits, and q its root: rem ≤ 2 * q.
 use Prim.Native.Nat.{ℕ, _+_, _-_, _*_, _/_, _%_, _^_, _≤_, _<_}
 use native.Mathlib.Nat.{lt-of-lt-of-le}
 use native.Mathlib.Omega.{arith}
 use mathlib.Core.Path.{_≡_}
 use mathlib.Core.Logic.{⊎-elim}
 use lib.Pow.{pow-add, pow-mono}
-use Rattle.ieee.proofs.root.digit_by_digit.Statement.{statement}
-use Rattle.ieee.proofs.root.digit_by_digit.Tie as tie
+use Rattle.root.proofs.digit_by_digit.Statement.{statement}
+use Rattle.root.proofs.digit_by_digit.Tie as tie
 
 -- the four numbers after i turns
 pub record After (m rest q rem i : ℕ) : Type 0 where

@@ -6,7 +6,7 @@ use mathlib.Core.Path.{_≡_, sym, ap, _∙_}
 use lib.Pow.{pow-add, shl-lt}
 use lib.Ieee.{size}
 use lib.Ieee.Digits.{size-lt, size-le, size-reaches}
-use Rattle.ieee.specs.Inner.{Normal}
+use Rattle.root.specs.Inner.{Normal}
 
 -- what `pack` asks of the digits M and of the power h, half of j
 pub record Ready (t k j M : ℕ) : Type 0 where

@@ -7,7 +7,7 @@ use mathlib.Core.Bool.{Bool, true, false, not, cond}
 use lib.Dec.{T, leb, eqb, leb→le, nleb→lt, eqb→eq, lit≤}
 use lib.Ieee.{size}
 use lib.Ieee.Digits.{size-lt}
-use Rattle.ieee.specs.Root.{rootIn, floorRoot, sticky}
+use Rattle.root.specs.Root.{rootIn, floorRoot, sticky}
 
 in-le : (d n : ℕ) → rootIn d n * rootIn d n ≤ n
 unfolding rootIn

@@ -11,9 +11,9 @@ use lib.Ieee.Fits.{round-is, down-pos}
 use lib.Ieee.Exact.{HasValue, odd-sign}
 use lib.Ieee.Bits.{is-true}
 use lib.Ieee.Nearest.{closest, closest-same}
-use Rattle.ieee.specs.Root.{rootOf, sqrtOf}
-use Rattle.ieee.proofs.RootFloor.{sq-lt, halves, halves-ge, halves-lt, halves-gt}
-use Rattle.ieee.proofs.RootRounding.{closest-is, size-is, odd-more, pattern-is, low-is}
+use Rattle.root.specs.Root.{rootOf, sqrtOf}
+use Rattle.root.proofs.RootFloor.{sq-lt, halves, halves-ge, halves-lt, halves-gt}
+use Rattle.root.proofs.RootRounding.{closest-is, size-is, odd-more, pattern-is, low-is}
 
 -- ---- the significand R = (q + 1) / 2, by q and the number N = M * 2 ^ 54 whose root is between q and q + 1
 -- A is 2 * R - 1: N lies strictly between the squares of 2 * R - 1 and 2 * R + 1.

@@ -1,11 +1,11 @@
--- `ieee::root::normal` meets its contract. The loop keeps m * 2 ^ j.
+-- `root::normal` meets its contract. The loop keeps m * 2 ^ j.
 use Prim.Native.Nat.{ℕ, zero, suc, _+_, _-_, _*_, _^_, _≤_, _<_}
 use native.Mathlib.Nat.{pow-succ', mul-le-mul, le-add-left}
 use native.Mathlib.Omega.{arith}
 use mathlib.Core.Path.{_≡_, refl}
 use lib.Pow.{pow-mono}
-use Rattle.ieee.proofs.root.normal.Statement.{statement}
-use Rattle.ieee.proofs.root.normal.Tie as tie
+use Rattle.root.proofs.normal.Statement.{statement}
+use Rattle.root.proofs.normal.Tie as tie
 
 pub record Kept (t k m j : ℕ) : Type 0 where
   pub some : 0 < m

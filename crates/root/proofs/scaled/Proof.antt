@@ -1,13 +1,13 @@
--- `ieee::root::scaled` meets its contract. Where j is odd, the digits are doubled, so that an even power of two is left.
+-- `root::scaled` meets its contract. Where j is odd, the digits are doubled, so that an even power of two is left.
 use borrow.Author.Needs.{needs}
 use Prim.Native.Nat.{ℕ, _-_, _*_, _^_, _≤_, _<_}
 use native.Mathlib.Omega.{arith}
 use mathlib.Core.Logic.{⊎-elim}
-use Rattle.ieee.proofs.RootDigits.{Ready, even-j, odd-j}
-use Rattle.ieee.proofs.RootFloor.{sq-lt}
-use Rattle.ieee.proofs.RootPattern.{pack}
-use Rattle.ieee.proofs.root.scaled.Statement.{statement}
-use Rattle.ieee.proofs.root.scaled.Tie as tie
+use Rattle.root.proofs.RootDigits.{Ready, even-j, odd-j}
+use Rattle.root.proofs.RootFloor.{sq-lt}
+use Rattle.root.proofs.RootPattern.{pack}
+use Rattle.root.proofs.scaled.Statement.{statement}
+use Rattle.root.proofs.scaled.Tie as tie
 
 ready : (c : tie.Joined1) → Ready (c .before .before .before .before .args .t) (c .before .before .before .before .args .k) (c .before .before .before .normal .result .j) (c .if1 .m)
 ready c =

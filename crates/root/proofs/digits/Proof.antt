@@ -1,11 +1,11 @@
--- `ieee::root::digits` meets its contract: where the exact rest is small enough, the guess or the next number is the root, whatever the guess is.
-use Rattle.ieee.proofs.RootGuess.{rest-is, here, next, upper-small}
+-- `root::digits` meets its contract: where the exact rest is small enough, the guess or the next number is the root, whatever the guess is.
+use Rattle.root.proofs.RootGuess.{rest-is, here, next, upper-small}
 use borrow.Author.Needs.{needs}
 use Prim.Native.Nat.{_+_, _*_, _-_, _%_, _^_, _<_}
 use mathlib.Core.Path.{_≡_}
 use native.Mathlib.Omega.{arith}
-use Rattle.ieee.proofs.root.digits.Statement.{statement}
-use Rattle.ieee.proofs.root.digits.Tie as tie
+use Rattle.root.proofs.digits.Statement.{statement}
+use Rattle.root.proofs.digits.Tie as tie
 
 -- the rest is exact where the test lets it through
 rest : (c : tie.After-excess) → c .excess .result < 2 ^ 64 - 1 → c .before .before .before .before .args .m * 2 ^ 54 ≡ c .before .before .before .near-root .result % 2 ^ 55 * (c .before .before .before .near-root .result % 2 ^ 55) + c .excess .result

@@ -1,4 +1,4 @@
--- `ieee::sqrt` meets its contract: the tests part the positive finite values from the rest, whose roots the definition names.
+-- `root::sqrt` meets its contract: the tests part the positive finite values from the rest, whose roots the definition names.
 use native.Mathlib.Omega.{arith}
 use mathlib.Core.Path.{_≡_, refl, sym, ap, _∙_, subst}
 use mathlib.Core.Bool.{true, false}
@@ -6,11 +6,11 @@ use lib.Dec.{T}
 use lib.IntN.{pos}
 use lib.Ieee.{nan, fin, binary64, fits, lt, div, ofBits}
 use lib.Ieee.Bits.{ofBits-toBits}
-use Rattle.ieee.specs.Root.{sqrtOf}
+use Rattle.root.specs.Root.{sqrtOf}
 use Rattle.ieee.proofs.Signs.{nought-is}
-use Rattle.ieee.proofs.RootCases.{no-nan, above-of, no-nan-bits, inf-of, zero-root, rest-root}
-use Rattle.ieee.proofs.sqrt.Statement.{statement}
-use Rattle.ieee.proofs.sqrt.Tie as tie
+use Rattle.root.proofs.RootCases.{no-nan, above-of, no-nan-bits, inf-of, zero-root, rest-root}
+use Rattle.root.proofs.sqrt.Statement.{statement}
+use Rattle.root.proofs.sqrt.Tie as tie
 
 -- an `f64` that is owned is a value of the format
 held : (c : tie.Start) → T (fits binary64 (c .args .x))

@@ -1,4 +1,5 @@
-// The square root of a positive finite double, on bit patterns: an integer root by a guess that is tested, and the plain digit loop where the test fails.
+// The square root, which IEEE 754 and Rust have for doubles and the language lacks. It answers for every double, a NaN and the infinities included.
+// Of a positive finite double it is found on bit patterns: an integer root by a guess that is tested, and the plain digit loop where the test fails.
 use std::num::wrapping_add_u64;
 use std::num::wrapping_sub_u64;
 use wide::excess;
@@ -7,8 +8,8 @@ use wide::upper;
 ghost use mathlib.Core.Path.{_≡_};
 ghost use Prim.Native.Nat.{_+_, _*_, _^_, _≤_, _<_};
 ghost use lib.Ieee.{ofBits, binary64};
-ghost use Rattle.ieee.specs.Root.{sqrtOf, rootOf};
-ghost use Rattle.ieee.specs.Inner.{Normal};
+ghost use Rattle.root.specs.Root.{sqrtOf, rootOf};
+ghost use Rattle.root.specs.Inner.{Normal};
 
 // The largest q with q * q <= m * 2^54, one binary digit a turn. Of m's 27 pairs of digits a turn
 // takes the upper one off `rest`; after 27 turns the pairs are 0.
@@ -119,7 +120,7 @@ fn scaled(t: u64, k: u64) -> u64
 }
 
 // The bit pattern of the root of the value whose bit pattern is b: positive and finite.
-pub fn pattern(b: u64) -> u64
+fn pattern(b: u64) -> u64
     requires { ⌜ (0 < b) × (b < 0x7ff0_0000_0000_0000) ⌝ }
     ensures { λ r. ⌜ (r < 0x7ff0_0000_0000_0000) × (ofBits binary64 r ≡ sqrtOf (ofBits binary64 b)) ⌝ }
 {
@@ -129,5 +130,23 @@ pub fn pattern(b: u64) -> u64
         scaled(t, 0)
     } else {
         scaled(t + 4503599627370496, e - 1)
+    }
+}
+
+// The square root of x: the double nearest to it. A zero stays as it is, and below zero it is a NaN.
+pub fn sqrt(x: f64) -> f64
+    ensures { λ r. ⌜ r ≡ sqrtOf x ⌝ }
+{
+    if x > 0.0 {
+        let b = f64::to_bits(x);
+        if b == 0x7ff0_0000_0000_0000 {
+            x
+        } else {
+            f64::from_bits(pattern(b))
+        }
+    } else if x == 0.0 {
+        x
+    } else {
+        0.0 / 0.0
     }
 }

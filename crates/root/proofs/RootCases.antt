@@ -10,7 +10,7 @@ use lib.IntN.{ℤ, pos}
 use lib.Ieee.{Float, nan, inf, fin, binary64, up, down, odd, lt, eq, fits, isNan, ofFields, ofBits, toBits, nanBits}
 use lib.Ieee.Fits.{up-pos, and-l}
 use lib.Ieee.Bits.{ofBits-toBits, nanBits-is, nanBits-above}
-use Rattle.ieee.specs.Root.{sqrtOf}
+use Rattle.root.specs.Root.{sqrtOf}
 
 -- ---- above zero
 pub no-nan : (x : Float) → lt (fin false 0 (pos 0)) x ≡ true → T (not (isNan x))

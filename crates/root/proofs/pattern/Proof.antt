@@ -1,9 +1,9 @@
--- `ieee::root::pattern` meets its contract. A bit pattern is read as its digits times a power of two.
+-- `root::pattern` meets its contract. A bit pattern is read as its digits times a power of two.
 use mathlib.Core.Path.{sym, _∙_}
-use Rattle.ieee.proofs.RootPattern.{sqrt-low, sqrt-high}
+use Rattle.root.proofs.RootPattern.{sqrt-low, sqrt-high}
 use borrow.Author.Needs.{needs}
-use Rattle.ieee.proofs.root.pattern.Statement.{statement}
-use Rattle.ieee.proofs.root.pattern.Tie as tie
+use Rattle.root.proofs.pattern.Statement.{statement}
+use Rattle.root.proofs.pattern.Tie as tie
 
 scaled-requires : tie.Need-scaled-requires
 scaled-requires c κs = search needs

@@ -13,12 +13,12 @@ use lib.Ieee.{fin, binary64, low, size, odd, up, down, fits}
 use lib.Ieee.Fits.{and-l, and-r}
 use lib.Ieee.Digits.{back}
 use lib.Ieee.Exact.{HasValue, odd-sign}
-use Rattle.ieee.specs.Root.{floorRoot, rootOf, sqrtOf}
-use Rattle.ieee.specs.Inner.{Normal}
+use Rattle.root.specs.Root.{floorRoot, rootOf, sqrtOf}
+use Rattle.root.specs.Inner.{Normal}
 use Rattle.ieee.proofs.Units.{exponent}
-use Rattle.ieee.proofs.RootFloor.{floor-le, floor-lt, halves}
-use Rattle.ieee.proofs.RootPattern.{Signif, signif, around, rounded, sqrt-units}
-use Rattle.ieee.proofs.RootDigits.{Ready, even-j, odd-j, normal-of}
+use Rattle.root.proofs.RootFloor.{floor-le, floor-lt, halves}
+use Rattle.root.proofs.RootPattern.{Signif, signif, around, rounded, sqrt-units}
+use Rattle.root.proofs.RootDigits.{Ready, even-j, odd-j, normal-of}
 
 pub record Nearest (X z : ℕ) : Type 0 where
   pub below : (m j : ℕ) → m < 2 ^ 53 → m * 2 ^ j < z → (m * 2 ^ j + z) * (m * 2 ^ j + z) < 4 * (X * 2 ^ 1074)
