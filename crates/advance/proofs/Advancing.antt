@@ -35,10 +35,6 @@ pub length-directed : (z : Float) (basis : List (List Float)) (free : List ℕ) 
 unfolding directed
 length-directed z basis free d = length-zeroed free _ ∙ length-projected z basis d
 
-pub length-moved : (t : Float) (x g : List Float) (free : List ℕ) → length (moved t x g free) ≡ length x
-unfolding moved
-length-moved t x g free = length-tab _ (length x)
-
 pub length-along : (t : Float) (ax ag : List Float) → length (along t ax ag) ≡ length ax
 unfolding along
 length-along t ax ag = length-tab _ (length ax)

@@ -25,11 +25,6 @@ use Rattle.begin.specs.Beginning.{BlockedFirst, Begun}
 use Rattle.freeze.proofs.Scratch.{back-front}
 use Rattle.freeze.proofs.Freezing.{offered-basis, offered-most}
 
-pub length-marks : (rows : ℕ) (first : List ℕ) (k : ℕ) → length (marksTo rows first k) ≡ rows
-unfolding marksTo
-length-marks rows first zero = length-tab _ rows
-length-marks rows first (suc k) = length-set (marksTo rows first k) (getD first k 0) 1 ∙ length-marks rows first k
-
 -- what holds after the first k of the rows were blocked
 pub record Blocking (a : ℕ → ℕ → Float) (l : ℕ) (first : List ℕ) (num₀ : List Float) (rows : ℕ) (v₀ num : List Float) (blocked : List ℕ) (v : List Float) (count k : ℕ) : Type 0 where
   pub upto : k ≤ length first

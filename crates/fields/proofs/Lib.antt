@@ -9,4 +9,3 @@ pub mod BitsBack
 pub mod CountsBack
 pub mod Words
 pub mod Longer
-pub mod There

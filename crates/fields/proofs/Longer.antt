@@ -57,9 +57,5 @@ pub count-longer : (t more : List ℕ) (i : ℕ) → i + widthAt t i < length t 
 count-longer t more i h =
     rw (width-longer t more i h, number-longer 10 t more i (widthAt t i) (omega arith), byte-longer t more i (omega arith))
 
--- so it is where twelve bytes are left
-pub width-longer-12 : (t more : List ℕ) (i : ℕ) → i + 12 ≤ length t → widthAt (t ++ more) i ≡ widthAt t i
-width-longer-12 t more i h = width-longer t more i (omega (arith, width-at-most t i))
-
 pub count-longer-12 : (t more : List ℕ) (i : ℕ) → i + 12 ≤ length t → countAt (t ++ more) i ≡ countAt t i
 count-longer-12 t more i h = count-longer t more i (omega (arith, width-at-most t i))

@@ -1,15 +1,14 @@
 -- Words there and back: a word stands at a place where the bytes from there are the word.
-use borrow.Author.Tests.{ltb-true, eqb-true, eq-eqb}
+use borrow.Author.Tests.{eqb-true, eq-eqb}
 use Prim.Native.Nat.{ℕ, _+_, _-_, _≤_, _<_}
 use mathlib.Core.Path.{_≡_, sym, ap, _∙_}
 use mathlib.Core.Bool.{true}
 use mathlib.Core.List.{List}
 use native.Mathlib.Omega.{arith}
-use lib.Dec.{eqb, ltb}
+use lib.Dec.{eqb}
 use lib.ListN.{length, getD}
 use lib.Seq.{ext-getD}
 use Rattle.seq.specs.Lists.{part}
-use Rattle.limits.specs.Limits.{allTo}
 use Rattle.seq.proofs.Parts.{length-part, getD-part}
 use Rattle.fields.specs.Bytes.{byteAt, spelled}
 use Rattle.fields.proofs.Every.{every-at, every-holds}
@@ -32,10 +31,6 @@ unfolding spelled
 part-spelled word t i e =
     every-holds (λ k. eqb (byteAt t (i + k)) (byteAt word k)) (length word)
     (λ j g. eq-eqb (byteAt t (i + j)) (byteAt word j) (sym (getD-part i (length word) j t 0 g) ∙ ap (λ (l : List ℕ). getD l j 0) e))
-
--- a word with no byte 0, by a test of it
-pub word-plain : (word : List ℕ) → allTo (λ j. ltb 0 (byteAt word j)) (length word) ≡ true → (j : ℕ) → j < length word → 0 < byteAt word j
-word-plain word h j g = ltb-true 0 (byteAt word j) (every-at (λ k. ltb 0 (byteAt word k)) (length word) j h g)
 
 -- a word with no byte 0, but for the empty one, stands within the text
 pub spelled-inside : (word t : List ℕ) (i : ℕ) → 0 < length word → ((j : ℕ) → j < length word → 0 < byteAt word j)

@@ -1,10 +1,9 @@
--- The order by magnitude is a strict weak order: a value stands above another where its height, a natural number, is the larger.
-use mathlib.Core.Path.{_≡_, sym, _∙_, subst}
-use Prim.Native.Nat.{ℕ, suc, _≤_, _<_}
-use native.Mathlib.Nat.{le-refl, le-of-lt, le-suc, lt-suc-self}
+-- The order by magnitude is one of natural numbers: a value stands above another where its height is the larger.
+use mathlib.Core.Path.{_≡_, sym, _∙_}
+use Prim.Native.Nat.{ℕ, suc}
+use native.Mathlib.Nat.{le-refl, le-suc, lt-suc-self}
 use native.Mathlib.Omega.{arith}
-use mathlib.Core.Bool.{Bool, true, false, not}
-use lib.Dec.{T, ltb, ltb→lt, nltb→le}
+use lib.Dec.{T, ltb}
 use lib.Ieee.{Float, nan, inf, fin, Format, fits, isNan, lt, below}
 use lib.Ieee.Scale.{overflow}
 use Rattle.ieee.specs.Units.{mag}
@@ -37,44 +36,3 @@ above-is f (inf s) (fin t n d) p q = numbers {f = f} {a = inf s} {b = fin t n d}
 above-is f (fin s m e) nan p q = unfold lt in sym (ltb-no (suc (overflow f)) (mag f (fin s m e)) (let l = mag-le f (fin s m e) p in omega arith))
 above-is f (fin s m e) (inf t) p q = numbers {f = f} {a = fin s m e} {b = inf t} (record { held = p; num = tt }) (record { held = q; num = tt })
 above-is f (fin s m e) (fin t n d) p q = numbers {f = f} {a = fin s m e} {b = fin t n d} (record { held = p; num = tt }) (record { held = q; num = tt })
-
--- ---- the tests as facts on heights
-module _ (f : Format) (a b : Float) (p : T (fits f a)) (q : T (fits f b)) where
-  pub above→height : aboveOf a b ≡ true → height f b < height f a
-  above→height h = ltb→lt (height f b) (height f a) (subst T (sym h ∙ above-is f a b p q) tt)
-
-  pub height→above : height f b < height f a → aboveOf a b ≡ true
-  height→above h = above-is f a b p q ∙ ltb-yes (height f b) (height f a) h
-
-  pub not-above→height : aboveOf a b ≡ false → height f a ≤ height f b
-  not-above→height h = nltb→le (height f b) (height f a) (subst (λ (t : Bool). T (not t)) (sym h ∙ above-is f a b p q) tt)
-
-  pub height→not-above : height f a ≤ height f b → aboveOf a b ≡ false
-  height→not-above h = above-is f a b p q ∙ ltb-no (height f b) (height f a) h
-
-pub above-irreflexive : (f : Format) (a : Float) → T (fits f a) → aboveOf a a ≡ false
-above-irreflexive f a p = height→not-above f a a p p (le-refl (height f a))
-
-pub above-asymmetric : (f : Format) (a b : Float) → T (fits f a) → T (fits f b) → aboveOf a b ≡ true → aboveOf b a ≡ false
-above-asymmetric f a b p q h = height→not-above f b a q p (le-of-lt (above→height f a b p q h))
-
-module _ (f : Format) (a b c : Float) (p : T (fits f a)) (q : T (fits f b)) (r : T (fits f c)) where
-  pub above-transitive : aboveOf a b ≡ true → aboveOf b c ≡ true → aboveOf a c ≡ true
-  above-transitive h k =
-      let x = above→height f a b p q h in
-      let y = above→height f b c q r k in
-      height→above f a c p r (omega arith)
-
-  -- what stands not above stands not above, in two steps too
-  pub not-above-transitive : aboveOf a b ≡ false → aboveOf b c ≡ false → aboveOf a c ≡ false
-  not-above-transitive h k =
-      let x = not-above→height f a b p q h in
-      let y = not-above→height f b c q r k in
-      height→not-above f a c p r (omega arith)
-
-  -- so a c that ties with a b that ties with a, ties with a
-  pub level-transitive : aboveOf a b ≡ false → aboveOf b a ≡ false → aboveOf b c ≡ false → aboveOf c b ≡ false → (aboveOf a c ≡ false) × (aboveOf c a ≡ false)
-  level-transitive h h' k k' =
-      let x = not-above→height f b a q p h' in
-      let y = not-above→height f c b r q k' in
-      (not-above-transitive h k, height→not-above f c a r p (omega arith))

@@ -1,20 +1,19 @@
--- Quotients that are exact, by 1.0 and by the value itself, and a quotient that a test bounds.
+-- 1.0 as a value of the format, and the quotient of a value by its own magnitude, which is exact.
 use mathlib.Core.Path.{_≡_, refl, sym, ap, _∙_, subst}
 use Prim.Native.Nat.{ℕ, _*_, _^_, _<_, min}
-use native.Mathlib.Nat.{le-trans, le-of-eq, lt-of-lt-of-le, mul-comm, one-mul, div-one}
+use native.Mathlib.Nat.{mul-comm, one-mul, div-one}
 use mathlib.Core.Bool.{Bool, false}
 use lib.IntN.{pos}
-use lib.Dec.{T}
 use lib.Pow.{pow-pos}
-use lib.Ieee.{Float, fin, Format, div, le, fits, binary64, low, binary32, ofBits}
+use lib.Ieee.{Float, fin, Format, div, fits, binary64, low, binary32, ofBits}
 use lib.Ieee.Fits.{div-fits}
 use lib.Ieee.Scale.{overflow, grid}
 use Rattle.ieee.specs.Magnitude.{absOf}
 use Rattle.ieee.specs.Units.{sign, mag}
 use Rattle.ieee.proofs.Units.{unique}
-use Rattle.ieee.proofs.Ranks.{Number, le→mag}
-use Rattle.ieee.proofs.Ops.{Finite, Positive, div-units, finite-inside, finite-number, grid-same, min-inside, rnd-fixed}
-use Rattle.ieee.proofs.Signs.{div-finite, one-units}
+use Rattle.ieee.proofs.Ranks.{Number}
+use Rattle.ieee.proofs.Ops.{Finite, Positive, div-units, finite-inside, finite-number, grid-same, min-inside}
+use Rattle.ieee.proofs.Signs.{one-units}
 use Rattle.ieee.proofs.Sums.{abs-finite, abs-mag, abs-size}
 
 -- 1.0
@@ -40,16 +39,6 @@ pub signed-unit : (f : Format) (s : Bool) → Finite f (fin s 1 (pos 0))
 signed-unit binary32 s = record { held = unfold fits in tt; ends = tt }
 signed-unit binary64 s = record { held = unfold fits in tt; ends = tt }
 
-pub unit-positive : (f : Format) → Positive f unit
-unit-positive f = record { fin = unit-finite f; plus = refl; some = lt-of-lt-of-le (pow-pos (low f)) (le-of-eq (sym (unit-mag f))) }
-
--- x / 1.0
-pub over-one : {f : Format} {x : Float} → Finite f x → div f x unit ≡ x
-over-one {f} {x} p =
-    let r = div-units p (unit-positive f) in
-    unique f (div f x unit) x (div-fits f x unit) (p .held) (r .number) (finite-number p .num) (r .signed)
-    (r .size-is ∙ ap (λ (z : ℕ). min (overflow f) (grid f (mag f x) z)) (unit-mag f) ∙ ap (min (overflow f)) (rnd-fixed p) ∙ min-inside (overflow f) (mag f x) (finite-inside p))
-
 -- w / |w| is 1.0 with w's sign
 pub over-itself : {f : Format} {w : Float} → Finite f w → 0 < mag f w → div f w (absOf w) ≡ fin (sign w) 1 (pos 0)
 over-itself {f} {w} p h =
@@ -62,9 +51,3 @@ over-itself {f} {w} p h =
     ∙ ap (λ (z : ℕ). min (overflow f) (grid f (mag f w) z)) (abs-mag f w)
     ∙ ap (min (overflow f)) (grid-same f (mag f w) (mag f w) 1 1 h (pow-pos 0) (mul-comm (mag f w) 1) ∙ one-units f ∙ sym (unit-mag f))
     ∙ min-inside (overflow f) (mag f unit) u)
-
--- |w| <= s
-pub div-within : {f : Format} {w s : Float} → Finite f w → Positive f s → T (le (absOf w) s) → Finite f (div f w s)
-div-within {f} {w} {s} p q h =
-    let a = abs-size (finite-number p) in
-    div-finite p q (le-trans (le-of-eq (sym (abs-mag f w))) (le→mag (a .number) (finite-number (q .fin)) (a .plus) (q .plus) h))

@@ -15,7 +15,6 @@ pub mod Division
 pub mod Tests
 pub mod Norms
 pub mod Normalised
-pub mod Largest
 pub mod Counting
 pub mod Pass
 pub mod Equality

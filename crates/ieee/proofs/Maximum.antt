@@ -1,4 +1,4 @@
--- The larger and the smaller of two, and the largest of many: at least each that is not a NaN, and never a NaN itself.
+-- The larger of two, and the largest of many: at least each that is not a NaN, and never a NaN itself.
 use mathlib.Core.Path.{_≡_, refl, sym, subst}
 use mathlib.Core.Logic.{_⊎_, inl, inr}
 use Prim.Native.Nat.{ℕ, zero, suc, _≤_, _<_}
@@ -8,10 +8,10 @@ use mathlib.Core.Bool.{Bool, true, false, not, _||_, false≢true}
 use lib.Dec.{T, le→leb}
 use lib.Ieee.{Float, nan, inf, fin, Format, lt, le, eq, fits, isNan}
 use Rattle.seq.specs.Choice.{pick}
-use Rattle.ieee.specs.Magnitude.{largestTo, largerOf, smallerOf}
+use Rattle.ieee.specs.Magnitude.{largestTo, largerOf}
 use Rattle.ieee.specs.Units.{isNum}
 use Rattle.ieee.proofs.Units.{rank}
-use Rattle.ieee.proofs.Ranks.{Number, le-rank, le-total, le-transitive, lt-not-le}
+use Rattle.ieee.proofs.Ranks.{Number, le-rank, le-transitive, lt-not-le}
 use Rattle.ieee.proofs.Ops.{finite-number}
 use Rattle.ieee.proofs.Signs.{nought-finite}
 
@@ -22,32 +22,12 @@ larger-number nan y h = absurd h
 larger-number (inf s) y h = refl
 larger-number (fin s m e) y h = refl
 
-pub smaller-number : (x y : Float) → T (isNum x) → smallerOf x y ≡ pick (lt y x) y x
-unfolding smallerOf isNan
-smaller-number nan y h = absurd h
-smaller-number (inf s) y h = refl
-smaller-number (fin s m e) y h = refl
-
 -- ---- a NaN is skipped
 pub larger-nan : (x : Float) → largerOf x nan ≡ x
 unfolding largerOf isNan lt
 larger-nan nan = refl
 larger-nan (inf s) = refl
 larger-nan (fin s m e) = refl
-
-pub nan-larger : (y : Float) → largerOf nan y ≡ y
-unfolding largerOf isNan
-nan-larger y = refl
-
-pub smaller-nan : (x : Float) → smallerOf x nan ≡ x
-unfolding smallerOf isNan lt
-smaller-nan nan = refl
-smaller-nan (inf s) = refl
-smaller-nan (fin s m e) = refl
-
-pub nan-smaller : (y : Float) → smallerOf nan y ≡ y
-unfolding smallerOf isNan
-nan-smaller y = refl
 
 -- ---- of two numbers
 pub record Larger (f : Format) (x y z : Float) : Type 0 where
@@ -75,28 +55,6 @@ larger-is {f} {x} {y} p q = subst (Larger f x y) (sym (larger-number x y (p .num
     go : (b : Bool) → b ≡ not (le y x) → Larger f x y (pick b y x)
     go true e = record { number = q; first = lt-le (subst T e tt); second = le-self q; either = inr refl }
     go false e = record { number = p; first = le-self p; second = yes (le y x) e; either = inl refl }
-      where
-        yes : (a : Bool) → false ≡ not a → T a
-        yes true e = tt
-        yes false e = absurd (false≢true e)
-
-pub record Smaller (f : Format) (x y z : Float) : Type 0 where
-  pub number : Number f z
-  pub first : T (le z x)
-  pub second : T (le z y)
-  pub either : (z ≡ x) ⊎ (z ≡ y)
-
-pub smaller-is : {f : Format} {x y : Float} → Number f x → Number f y → Smaller f x y (smallerOf x y)
-smaller-is {f} {x} {y} p q = subst (Smaller f x y) (sym (smaller-number x y (p .num))) (go (lt y x) (lt-not-le q p) (le-total p q))
-  where
-    go : (b : Bool) → b ≡ not (le x y) → T (le x y) ⊎ T (le y x) → Smaller f x y (pick b y x)
-    go true e (inl h) = absurd (clash (le x y) e h)
-      where
-        clash : (a : Bool) → true ≡ not a → T a → ⊥
-        clash true e h = false≢true (sym e)
-        clash false e h = h
-    go true e (inr h) = record { number = q; first = h; second = le-self q; either = inr refl }
-    go false e h = record { number = p; first = le-self p; second = yes (le x y) e; either = inl refl }
       where
         yes : (a : Bool) → false ≡ not a → T a
         yes true e = tt

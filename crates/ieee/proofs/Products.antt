@@ -1,4 +1,4 @@
--- Products in units: by a factor of at most 1, by 1.0, by 2.0 of a value that a test bounds.
+-- Products in units: by a factor of at most 1, and by 1.0.
 use mathlib.Core.Path.{_≡_, refl, sym, ap, _∙_, subst}
 use Prim.Native.Nat.{ℕ, _*_, _^_, _≤_, _<_, min}
 use native.Mathlib.Nat.{le-trans, mul-one, le-of-eq, lt-of-le-of-lt, mul-assoc, mul-comm, mul-mul-mul-comm, mul-pos, mul-le-mul-left, mul-le-mul-right}
@@ -6,17 +6,13 @@ use mathlib.Core.Bool.{Bool, true, false}
 use lib.IntN.{ℤ, pos}
 use lib.Dec.{T, lit<}
 use lib.Pow.{pow-pos}
-use lib.Ieee.{Float, nan, inf, fin, Format, round, mul, le, fits, binary64, low, up, down, unlike}
+use lib.Ieee.{Float, nan, inf, fin, Format, round, mul, fits, low, up, down, unlike}
 use lib.Ieee.Fits.{down-pos, mul-fits}
 use lib.Ieee.Scale.{overflow, finite, grid}
-use Rattle.ieee.specs.Magnitude.{absOf}
 use Rattle.ieee.specs.Units.{sign, mag}
 use Rattle.ieee.proofs.Grid.{Rounded, grid-le, rounded}
 use Rattle.ieee.proofs.Units.{unique, units}
-use Rattle.ieee.proofs.Ranks.{Number, le→mag}
-use Rattle.ieee.proofs.Ops.{Finite, finite-inside, finite-number, grid-same, inside-finite, min-inside, rnd-fixed, round-units, twice, under-cap, unlike-false}
-use Rattle.ieee.proofs.Signs.{twice-finite}
-use Rattle.ieee.proofs.Sums.{abs-mag, abs-size}
+use Rattle.ieee.proofs.Ops.{Finite, finite-inside, grid-same, inside-finite, min-inside, rnd-fixed, round-units, under-cap, unlike-false}
 
 mul-opened : (f : Format) (s : Bool) (m : ℕ) (i : ℤ) (r : Bool) (n : ℕ) (d : ℤ) → mul f (fin s m i) (fin r n d) ≡ round f (unlike s r) (m * up i * (n * up d)) (down i * down d)
 unfolding mul
@@ -76,9 +72,3 @@ times-one f (fin s m e) p =
 -- |w| <= 2 ^ 1000
 small : (n : ℕ) → n ≤ 2 ^ 2074 → 2 * n < 2 ^ 2098
 small n h = lt-of-le-of-lt (mul-le-mul-left 2 h) (lit< tt)
-
-pub twice-up-to : (w : Float) → Finite binary64 w → T (le (absOf w) (fin false 1 (pos 1000))) → Finite binary64 (mul binary64 twice w)
-twice-up-to w p h =
-    let s = abs-size (finite-number p) in
-    let b : Number binary64 (fin false 1 (pos 1000)) = record { held = unfold fits in tt; num = tt } in
-    twice-finite p (small (mag binary64 w) (le-trans (le-of-eq (sym (abs-mag binary64 w))) (le→mag (s .number) b (s .plus) refl h)))

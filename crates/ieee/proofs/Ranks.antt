@@ -1,6 +1,5 @@
--- Comparisons of values are comparisons of their ranks: so `le` is a total order of the values that are not NaN, in which only the two zeros are tied.
+-- Comparisons of values are comparisons of their ranks: so `le` is an order of the values that are not NaN, and `lt` its opposite.
 use mathlib.Core.Path.{_≡_, refl, sym, ap, _∙_, subst}
-use mathlib.Core.Logic.{_⊎_, inl, inr}
 use Prim.Native.Nat.{ℕ, suc, _+_, _-_, _*_, _^_, _≤_, _<_}
 use native.Mathlib.Nat.{le-refl, le-trans, le-of-eq, le-of-lt, add-mul, mul-comm, mul-assoc, mul-right-comm, mul-pos, zero-mul, eq-of-mul-eq-mul-right}
 use native.Mathlib.Omega.{arith}
@@ -146,17 +145,10 @@ pub le-rank : {f : Format} {x y : Float} → Number f x → Number f y → le x 
 unfolding le
 le-rank {f} {x} {y} p q = ap (λ (u : Bool). u || eq x y) (lt-rank p q) ∙ ap (λ (u : Bool). ltb (rank f x) (rank f y) || u) (eq-rank p q) ∙ or-le (rank f x) (rank f y)
 
--- ---- so `le` is a total order
+-- ---- so `le` is an order
 pub le-transitive : {f : Format} {x y z : Float} → Number f x → Number f y → Number f z → T (le x y) → T (le y z) → T (le x z)
 le-transitive {f} {x} {y} {z} p q r h k =
     rw (le-rank p r) (le→leb (rank f x) (rank f z) (le-trans (leb→le (rank f x) (rank f y) (rw (le-rank p q) at h)) (leb→le (rank f y) (rank f z) (rw (le-rank q r) at k))))
-
-pub le-total : {f : Format} {x y : Float} → Number f x → Number f y → T (le x y) ⊎ T (le y x)
-le-total {f} {x} {y} p q = go (leb (rank f x) (rank f y)) (leb→le (rank f x) (rank f y)) (nleb→lt (rank f x) (rank f y))
-  where
-    go : (t : Bool) → (T t → rank f x ≤ rank f y) → (T (not t) → rank f y < rank f x) → T (le x y) ⊎ T (le y x)
-    go true h k = inl (rw (le-rank p q) (le→leb (rank f x) (rank f y) (h tt)))
-    go false h k = inr (rw (le-rank q p) (le→leb (rank f y) (rank f x) (le-of-lt (k tt))))
 
 -- not below is at or above
 pub lt-not-le : {f : Format} {x y : Float} → Number f x → Number f y → lt x y ≡ not (le y x)

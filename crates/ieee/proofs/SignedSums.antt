@@ -1,21 +1,17 @@
--- A sum of two values of any signs, in units, and a bound on running sums of terms of any signs.
+-- A sum of two values of any signs, in units.
 use mathlib.Core.Path.{_≡_, sym, ap, _∙_, subst}
-use Prim.Native.Nat.{ℕ, zero, suc, _+_, _-_, _*_, _^_, _≤_, _<_}
-use native.Mathlib.Nat.{le-trans, le-suc, lt-suc-self, le-of-eq, lt-of-le-of-lt, mul-assoc, mul-comm, mul-pos, mul-le-mul-right, zero-mul, le-refl, mul-right-comm, suc-mul, add-le-add, mul-sub}
-use native.Mathlib.Omega.{arith}
+use Prim.Native.Nat.{ℕ, _+_, _-_, _*_, _^_, _<_}
+use native.Mathlib.Nat.{mul-assoc, mul-comm, mul-pos, mul-right-comm, mul-sub}
 use mathlib.Core.Bool.{Bool, true, false, _&&_, Bool·beq, cond}
 use lib.Dec.{T, ltb}
 use lib.Pow.{pow-pos}
-use lib.Ieee.{Float, nan, inf, fin, Format, round, add, fits, low, up, down, prec, sum}
-use lib.Ieee.Fits.{down-pos, add-fits}
-use lib.Ieee.Scale.{overflow, finite}
-use Rattle.seq.specs.Sums.{sumFrom}
-use Rattle.ieee.specs.Pass.{sumUp}
+use lib.Ieee.{Float, nan, inf, fin, Format, round, add, fits, low, up, down, sum}
+use lib.Ieee.Fits.{down-pos}
+use lib.Ieee.Scale.{finite}
 use Rattle.ieee.specs.Units.{sign, mag}
 use Rattle.ieee.proofs.Grid.{Rounded}
 use Rattle.ieee.proofs.Units.{ltb-is, units}
-use Rattle.ieee.proofs.Ops.{Finite, both-units, inside-finite, opened, rnd, rnd-exact, rnd-mono, round-units, under-cap}
-use Rattle.ieee.proofs.Signs.{mag-nought, nought-finite}
+use Rattle.ieee.proofs.Ops.{Finite, both-units, opened, rnd, round-units}
 
 -- ---- a sum of any two finite values
 abbrev pub sumSign : Bool → ℕ → Bool → ℕ → Bool
@@ -57,31 +53,3 @@ add-rounded {f} {x} {y} p q = go x y (p .held) (p .ends) (q .held) (q .ends)
     go (fin s m i) (fin r n d) p t q u =
         subst (λ (z : Float). Rounded f (sumSign s (mag f (fin s m i)) r (mag f (fin r n d))) (rnd f (sumSize s (mag f (fin s m i)) r (mag f (fin r n d)))) z) (sym (opened f s m i r n d))
         (sum-rounded f s r (m * up i) (n * up d) (down i) (down d) (mag f (fin s m i)) (mag f (fin r n d)) (down-pos i) (down-pos d) (units f s m i p .cross) (units f r n d q .cross))
-
--- ---- running sums of terms of either sign: k terms of at most 2 ^ p units sum to at most k * 2 ^ p units
-size-le : (s t : Bool) (x y : ℕ) → sumSize s x t y ≤ x + y
-size-le s t x y = go (Bool·beq s t) (ltb x y)
-  where
-    go : (u v : Bool) → cond u (x + y) (cond v (y - x) (x - y)) ≤ x + y
-    go true v = le-refl (x + y)
-    go false true = omega arith
-    go false false = omega arith
-
-pub record Within (f : Format) (n : ℕ) (x : Float) : Type 0 where
-  pub ends : Finite f x
-  pub most : mag f x ≤ n
-
-pub sum-within : (f : Format) (v : ℕ → Float) (p k : ℕ) → ((j : ℕ) → j < k → Within f (2 ^ p) (v j)) → k < 2 ^ prec f → k * 2 ^ p < overflow f → Within f (k * 2 ^ p) (sumUp f v k)
-unfolding sumFrom
-sum-within f v p zero h few o = record { ends = nought-finite f false; most = le-of-eq (mag-nought f false ∙ sym (zero-mul (2 ^ p))) }
-sum-within f v p (suc k) h few o =
-    let less : k * 2 ^ p ≤ suc k * 2 ^ p = mul-le-mul-right (2 ^ p) (le-suc k) in
-    let ih = sum-within f v p k (λ j l. h j (le-trans l (le-suc k))) (le-trans (le-suc (suc k)) few) (lt-of-le-of-lt less o) in
-    let t = h k (lt-suc-self k) in
-    let r = add-rounded (ih .ends) (t .ends) in
-    let S = sumUp f v k in
-    let b : mag f (add f S (v k)) ≤ suc k * 2 ^ p =
-    under-cap (overflow f) (suc k * 2 ^ p) (rnd f (sumSize (sign S) (mag f S) (sign (v k)) (mag f (v k)))) (mag f (add f S (v k)))
-    (le-trans (rnd-mono f (le-trans (size-le (sign S) (sign (v k)) (mag f S) (mag f (v k))) (le-trans (add-le-add (ih .most) (t .most)) (le-of-eq (sym (suc-mul k (2 ^ p))))))) (le-of-eq (rnd-exact f (suc k) p few o)))
-    (r .size-is) in
-    record { ends = inside-finite (record { held = add-fits f S (v k); num = r .number }) (lt-of-le-of-lt b o); most = b }

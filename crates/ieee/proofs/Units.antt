@@ -5,7 +5,7 @@ use native.Mathlib.Nat.{le-refl, le-trans, le-of-eq, le-of-lt, lt-of-le-of-lt, l
 use native.Mathlib.Omega.{arith}
 use mathlib.Core.Bool.{Bool, true, false, not, _&&_, cond}
 use lib.IntN.{ℤ, pos, negsuc}
-use lib.Dec.{T, leb, ltb, eqb, leb→le, nleb→lt, ltb→lt, lt→ltb, eqb→eq, lit<, lit≤}
+use lib.Dec.{T, leb, ltb, eqb, leb→le, nleb→lt, ltb→lt, lt→ltb, eqb→eq, lit<}
 use lib.Pow.{pow-add, pow-pos, pow-lt}
 use lib.Ieee.{binary32, binary64, Float, nan, inf, fin, Format, prec, emax, low, up, down, below, fits, toBits, ofBits, top, hid, size}
 use lib.Ieee.Digits.{back}
@@ -179,7 +179,3 @@ exponents-room binary64 = lit< tt
 pub digits-room : (f : Format) → 9 < prec f
 digits-room binary32 = lit< tt
 digits-room binary64 = lit< tt
-
-pub fractions-room : (f : Format) → 9 ≤ low f
-fractions-room binary32 = lit≤ tt
-fractions-room binary64 = lit≤ tt

@@ -1,10 +1,10 @@
--- The root of a value of the format is one, and that of what is not negative is not negative; where two values are equal but for the sign of a zero, so are their roots.
+-- The root of a value that is not negative is one too; where two values are equal but for the sign of a zero, so are their roots.
 use mathlib.Core.Path.{_≡_, refl}
 use Prim.Native.Nat.{ℕ, zero, suc, _+_, _*_, _^_}
 use mathlib.Core.Bool.{true, false, true≢false}
 use lib.Dec.{T}
 use lib.Ieee.{Float, nan, inf, fin, binary64, fits}
-use lib.Ieee.Fits.{nan-fits, round-fits}
+use lib.Ieee.Fits.{round-fits}
 use Rattle.ieee.specs.Units.{sign, isNum}
 use Rattle.ieee.specs.Flat.{flat, Alike}
 use Rattle.root.specs.Root.{floorRoot, sticky, rootOf, sqrtOf}
@@ -19,15 +19,6 @@ root-fits n = round-fits binary64 false (2 * floorRoot (n * 4 ^ 54) + sticky (n 
 root-rounded : (n : ℕ) → (T (isNum (rootOf n))) × (sign (rootOf n) ≡ false)
 unfolding rootOf
 root-rounded n = let r = rounded binary64 false (2 * floorRoot (n * 4 ^ 54) + sticky (n * 4 ^ 54) (floorRoot (n * 4 ^ 54))) (2 ^ 592) in (r .number, r .signed)
-
-pub sqrt-fits : (x : Float) → T (fits binary64 x) → T (fits binary64 (sqrtOf x))
-unfolding sqrtOf
-sqrt-fits nan h = nan-fits binary64
-sqrt-fits (inf true) h = unfold fits in tt
-sqrt-fits (inf false) h = unfold fits in tt
-sqrt-fits (fin s zero e) h = h
-sqrt-fits (fin true (suc m) e) h = nan-fits binary64
-sqrt-fits (fin false (suc m) e) h = root-fits _
 
 pub sqrt-size : (x : Float) → Size binary64 x → Size binary64 (sqrtOf x)
 unfolding sqrtOf

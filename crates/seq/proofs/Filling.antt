@@ -6,7 +6,7 @@ use native.Mathlib.Nat.{mul-le-mul-right}
 use native.Mathlib.Decide.{decLt}
 use native.Mathlib.Omega.{arith}
 use native.Mathlib.Numerals.{add-one}
-use lib.ListN.{length, getD, take, drop, set, length-set, length-append, length-drop, List·getD-append, take-append-drop}
+use lib.ListN.{length, getD, take, drop, set, length-set, length-append, List·getD-append, take-append-drop}
 use lib.Seq.{take-all, take-suc, drop-cons, set-at, getD-at, drop-length, append-snoc, getD-append-add, getD-drop}
 use Rattle.seq.specs.Lists.{tabulate}
 
@@ -23,9 +23,6 @@ module _ {A : Type 0} where
   pub filled-none : (f : ℕ → A) (v : List A) → v ≡ filled f v 0
   unfolding tabulate
   filled-none f v = refl
-
-  pub length-filled : (f : ℕ → A) (v : List A) (i : ℕ) → i ≤ length v → length (filled f v i) ≡ length v
-  length-filled f v i h = simp (length-append, length-tab, length-drop) (omega arith)
 
   -- a turn: one store
   pub filled-more : (f : ℕ → A) (v : List A) (i : ℕ) (z : A) → i < length v → set (filled f v i) i (f i) ≡ filled f v (i + 1)

@@ -1,6 +1,6 @@
--- Laws of `part` and `placed`: what is written to a part is read from it, and every other part is as it was.
+-- Laws of `part` and `placed`: what is written to a part is read from it, and what stands below it is as it was.
 use Prim.Native.Nat.{ℕ, _+_, _-_, _≤_, _<_}
-use mathlib.Core.Path.{_≡_, refl, sym, ap, _∙_}
+use mathlib.Core.Path.{_≡_, sym, ap, _∙_}
 use mathlib.Core.List.{List, _++_}
 use native.Mathlib.Omega.{arith}
 use lib.ListN.{length, getD, take, drop, length-append, length-take, length-drop, take-append-drop}
@@ -36,52 +36,8 @@ module _ {A : Type 0} where
       front b m (take a xs) (ys ++ drop k (drop a xs)) (omega arith)
       ∙ sym (front b m (take a xs) (drop a xs) (omega arith)) ∙ ap (part b m) (take-append-drop a xs)
 
-  pub part-above : (b m a k : ℕ) (xs ys : List A) → a + k ≤ b → a + k ≤ length xs → length ys ≡ k → part b m (placed a k xs ys) ≡ part b m xs
-  part-above b m a k xs ys h g e =
-      let p : length (take a xs) ≡ a = length-take-le a xs (omega arith) in
-      let q : length (part a k xs) ≡ k = length-part a k xs g in
-      back b m (take a xs) (ys ++ drop k (drop a xs)) (omega arith)
-      ∙ back (b - length (take a xs)) m ys (drop k (drop a xs)) (omega arith)
-      ∙ ap (λ (n : ℕ). part (b - length (take a xs) - n) m (drop k (drop a xs))) (e ∙ sym q)
-      ∙ sym (back (b - length (take a xs)) m (part a k xs) (drop k (drop a xs)) (omega arith))
-      ∙ ap (part (b - length (take a xs)) m) (take-append-drop k (drop a xs))
-      ∙ sym (back b m (take a xs) (drop a xs) (omega arith)) ∙ ap (part b m) (take-append-drop a xs)
-
   pub part-add : (a n k : ℕ) (xs : List A) → part a (n + k) xs ≡ part a n xs ++ part (a + n) k xs
   part-add a n k xs = take-add n k (drop a xs) ∙ ap (λ (l : List A). part a n xs ++ take k l) (drop-drop n a xs)
 
-  -- one more vector at the end of a basis
-  pub part-grown : (a n k : ℕ) (xs ys : List A) → a + n + k ≤ length xs → length ys ≡ k
-      → part a (n + k) (placed (a + n) k xs ys) ≡ part a n xs ++ ys
-  part-grown a n k xs ys h e =
-      part-add a n k (placed (a + n) k xs ys)
-      ∙ ap (λ (l : List A). l ++ part (a + n) k (placed (a + n) k xs ys)) (part-below a n (a + n) k xs ys (omega arith) (omega arith))
-      ∙ ap (λ (l : List A). part a n xs ++ l) (part-same (a + n) k xs ys h e)
-
   pub getD-part : (a k i : ℕ) (xs : List A) (z : A) → i < k → getD (part a k xs) i z ≡ getD xs (a + i) z
   getD-part a k i xs z h = getD-take k (drop a xs) i z h ∙ getD-drop a xs i z
-
-  -- xs and ys differ at most in the k elements from a
-  pub record Within (a k : ℕ) (xs ys : List A) : Type 0 where
-    pub long : length ys ≡ length xs
-    pub below : (b m : ℕ) → b + m ≤ a → part b m ys ≡ part b m xs
-    pub above : (b m : ℕ) → a + k ≤ b → part b m ys ≡ part b m xs
-
-  pub within-refl : (a k : ℕ) (xs : List A) → Within a k xs xs
-  within-refl a k xs = record { long = refl; below = λ b m h. refl; above = λ b m h. refl }
-
-  pub within-placed : (a k : ℕ) (xs ys : List A) → a + k ≤ length xs → length ys ≡ k → Within a k xs (placed a k xs ys)
-  within-placed a k xs ys h e =
-      record { long = length-placed a k xs ys h e; below = λ b m g. part-below b m a k xs ys g (omega arith); above = λ b m g. part-above b m a k xs ys g h e }
-
-  pub within-trans : {a k : ℕ} {xs ys zs : List A} → Within a k xs ys → Within a k ys zs → Within a k xs zs
-  within-trans p q =
-      record {
-        long = q .long ∙ p .long;
-        below = λ b m h. q .below b m h ∙ p .below b m h;
-        above = λ b m h. q .above b m h ∙ p .above b m h;
-      }
-
-  pub within-widen : {a k : ℕ} {xs ys : List A} (b m : ℕ) → Within a k xs ys → b ≤ a → a + k ≤ b + m → Within b m xs ys
-  within-widen {a} {k} b m p h g =
-      record { long = p .long; below = λ c n e. p .below c n (omega arith); above = λ c n e. p .above c n (omega arith) }
