@@ -7,8 +7,8 @@ use native.Mathlib.Numerals.{add-one}
 use native.Mathlib.Omega.{arith}
 use lib.Dec.{T}
 use lib.Ieee.Bits.{is-true}
-use lib.Ieee.{Float, nan, inf, fin, binary64, ofBits, lt, le, eq, fits}
-use Rattle.ieee.specs.Magnitude.{absOf, aboveOf, largerOf, largestTo}
+use lib.Ieee.{Float, nan, inf, fin, binary64, ofBits, lt, le, fits}
+use Rattle.ieee.specs.Magnitude.{absOf, largerOf, largestTo}
 use Rattle.ieee.specs.Units.{isNum}
 use Rattle.ieee.proofs.Ranks.{Number, lt-not-le, le-transitive}
 use Rattle.ieee.proofs.Maximum.{le-self, larger-nan, larger-is, largest-number, largest-ge}

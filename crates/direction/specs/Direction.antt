@@ -6,7 +6,7 @@ use lib.ListN.{length}
 use lib.Ieee.{Float, binary64, mul, neg, le, lt}
 use Rattle.seq.specs.Choice.{pick}
 use Rattle.seq.specs.Lists.{tabulate}
-use Rattle.seq.specs.Sums.{plusZero, sumTo, at}
+use Rattle.seq.specs.Sums.{plusZero, at}
 use Rattle.draw.specs.Gaussian.{gaussianOf, afterGaussian}
 use Rattle.linear.specs.Vectors.{dotOf, normOf}
 use Rattle.linear.specs.Basis.{projected}

@@ -1,12 +1,12 @@
 -- What a walk holds within a phase, and how its coordinates freeze.
 use Prim.Native.Nat.{ℕ, zero, suc, _+_}
 use mathlib.Core.Bool.{Bool, _&&_}
-use mathlib.Core.List.{List, []}
-use lib.Dec.{ltb, eqb}
+use mathlib.Core.List.{List}
+use lib.Dec.{ltb}
 use lib.ListN.{length, set}
 use lib.Ieee.{Float, le}
 use Rattle.seq.specs.Choice.{pick}
-use Rattle.seq.specs.Lists.{tabulate, repeated}
+use Rattle.seq.specs.Lists.{repeated}
 use Rattle.seq.specs.Sums.{plusZero, at}
 use Rattle.ieee.specs.Magnitude.{absOf, signumOf}
 use Rattle.linear.specs.Basis.{inserted}

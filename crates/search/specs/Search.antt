@@ -1,6 +1,6 @@
 -- Local search: single coordinates are flipped while that lowers the largest magnitude of A x, in at most 100 sweeps.
 use Prim.Native.Nat.{ℕ, zero, suc}
-use mathlib.Core.Bool.{Bool, true, false, not}
+use mathlib.Core.Bool.{Bool, true, false}
 use mathlib.Core.List.{List}
 use lib.ListN.{length, set}
 use lib.Ieee.{Float, binary64, sub, mul, neg, lt}

@@ -1,18 +1,17 @@
 -- A phase reads a matrix only at its l columns and n rows: two matrices with the same entries there have the same phase.
-use Prim.Native.Nat.{ℕ, zero, suc, _+_, _/_, _≤_, _<_}
-use mathlib.Core.Path.{_≡_, refl, sym, ap, _∙_}
-use mathlib.Core.Bool.{Bool, true, false, not, _&&_, _||_}
-use mathlib.Core.List.{List, [], _∷_}
+use Prim.Native.Nat.{ℕ, zero, suc, _/_, _<_}
+use mathlib.Core.Path.{_≡_, refl, ap}
+use mathlib.Core.Bool.{Bool, true, false, _&&_}
+use mathlib.Core.List.{List}
 use native.Mathlib.Decide.{decLt}
 use native.Mathlib.Omega.{arith}
 use lib.Seq.{take-nil}
-use lib.Dec.{ltb, eqb}
+use lib.Dec.{ltb}
 use borrow.Author.Tests.{ltb-true}
-use lib.ListN.{length, getD, take, set}
+use lib.ListN.{length, getD, take}
 use lib.Ieee.{Float, binary64, mul}
 use lib.Ieee.Scale.{finite}
 use Rattle.seq.specs.Choice.{pick}
-use Rattle.seq.specs.Lists.{tabulate}
 use Rattle.seq.specs.Sums.{sumTo, at}
 use Rattle.seq.specs.Sort.{sorted}
 use Rattle.seq.specs.Until.{run}
@@ -22,11 +21,11 @@ use Rattle.seq.proofs.Sorting.{sorted-all, take-all-of}
 use Rattle.linear.specs.Basis.{inserted}
 use Rattle.entries.specs.Rows.{rowOf, rowNorm, rowNorms, times, firstRows}
 use Rattle.order.specs.Order.{comesFirst, worstTo}
-use Rattle.direction.specs.Direction.{uphill, turned, drawn, directed, tooShort}
+use Rattle.direction.specs.Direction.{uphill, turned, drawn, directed}
 use Rattle.direction.specs.Step.{reachTo}
-use Rattle.freeze.specs.Freeze.{Walk, axis, freezes, blocking, frozenAt, freezeTo}
-use Rattle.begin.specs.Begin.{blockTo, marksTo, begun}
-use Rattle.walk.specs.Walk.{Stepped, drew, advanced, steppedAlong, stepOf, ended, left, phaseOf}
+use Rattle.freeze.specs.Freeze.{Walk, axis, blocking, frozenAt, freezeTo}
+use Rattle.begin.specs.Begin.{blockTo, begun}
+use Rattle.walk.specs.Walk.{Stepped, drew, steppedAlong, stepOf, ended, left, phaseOf}
 
 -- equal steps give equal loops
 pub run-cong : {S : Type 0} (done : S → Bool) (f g : S → S) → ((s : S) → f s ≡ g s) → (k : ℕ) (s : S) → run done f k s ≡ run done g k s

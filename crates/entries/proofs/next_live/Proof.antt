@@ -1,7 +1,6 @@
 -- `entries::next_live` meets its contract: every place that the loop has left behind adds nothing.
 use borrow.Author.Needs.{needs}
 use Prim.Native.Nat.{_-_}
-use native.Mathlib.Omega.{arith}
 use lib.ListN.{length}
 use Rattle.entries.specs.PassedOver.{PassedOver}
 use Rattle.entries.proofs.Skipping.{passed-none, passed-more}

@@ -4,7 +4,7 @@ use Rattle.linear.specs.Vectors.{maxAbsTo}
 use Rattle.linear.proofs.Larger.{max-more, max-passed}
 use borrow.Author.Needs.{needs}
 use Prim.Native.Nat.{_-_, _+_, _≤_}
-use mathlib.Core.Path.{_≡_, refl, sym, _∙_}
+use mathlib.Core.Path.{_≡_, refl, _∙_}
 use native.Mathlib.Omega.{arith}
 use native.Mathlib.Numerals.{add-one}
 use lib.ListN.{length}
