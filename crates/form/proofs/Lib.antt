@@ -1,7 +1,5 @@
 -- Laws of the form of a sheet: how it is read, that what is taken is of the form, that what is of the form is taken, and that a longer text is answered as its beginning is.
-pub mod Doubles
-pub mod Places
-pub mod Fields
+pub mod Rooms
 pub mod Columns
 pub mod Verdicts
 pub mod Segments

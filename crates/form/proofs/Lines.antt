@@ -8,7 +8,8 @@ use native.Mathlib.Decide.{decLt}
 use native.Mathlib.Omega.{arith}
 use lib.Dec.{eqb}
 use lib.ListN.{length}
-use Rattle.form.specs.Form.{headOf, lineLong, isColumn, columnsFrom, endOf, wrongLine}
+use Rattle.head.specs.FirstLine.{headOf}
+use Rattle.form.specs.Form.{lineLong, isColumn, columnsFrom, endOf, wrongLine}
 use Rattle.form.proofs.Columns.{one-column, no-column, none-asked}
 use Rattle.form.proofs.Verdicts.{first-wrong, column-wrong, none-wrong, end-wrong}
 

@@ -25,12 +25,13 @@ use Rattle.fields.proofs.Words.{spelled-at}
 use Rattle.rules.specs.declared.Cap.{Cap}
 use Rattle.rules.specs.declared.Cap.the-variants.{Absent, AtMost}
 use Rattle.rules.specs.declared.Rule.the-variants.{Target, Within}
-use Rattle.form.specs.Words.{thinWord, targetWord, withinWord, colWord, dash}
-use Rattle.form.specs.Form.{capAt, targetAt, withinAt, ruleAt, sizesAt, headOf, lineLong, isEntry, isColumn, endOf, wrongLine}
+use Rattle.head.specs.Words.{thinWord, targetWord, withinWord, dash}
+use Rattle.head.specs.FirstLine.{capAt, targetAt, withinAt, ruleAt, sizesAt, headOf}
+use Rattle.head.specs.declared.Head.{Head}
+use Rattle.head.proofs.Fields.{cap-dash, cap-count, sizes-is, within-is, rule-target, rule-within, head-is}
+use Rattle.form.specs.Form.{lineLong, isEntry, colWord, isColumn, endOf, wrongLine}
 use Rattle.form.specs.Reading.{weightsOf, matrixOf}
 use Rattle.form.specs.Sheets.{Wish, target, within, Sheet, capText, wishText, headText, entriesText, columnText, columnsText, sheetText, capFits, wishFits, Fits, ruleOf, Says}
-use Rattle.form.specs.declared.Head.{Head}
-use Rattle.form.proofs.Fields.{cap-dash, cap-count, sizes-is, within-is, rule-target, rule-within, head-is}
 use Rattle.form.proofs.Segments.{Seg, seg-first, seg-rest, seg-after, seg-byte, seg-word, seg-bits, seg-bits-at, seg-count, seg-digit, whole-seg}
 use Rattle.form.proofs.Lines.{right-back}
 

@@ -16,14 +16,16 @@ use Rattle.fields.proofs.Values.{both}
 use Rattle.fields.proofs.Every.{every-at}
 use Rattle.fields.proofs.BitsBack.{bits-below}
 use Rattle.rules.specs.declared.Cap.the-variants.{Absent, AtMost}
-use Rattle.form.specs.Words.{thinWord, targetWord, withinWord, colWord, dash}
-use Rattle.form.specs.Form.{capAt, targetAt, withinAt, noRule, ruleAt, sizesAt, headOf, lineLong, isEntry, isColumn, endOf, wrongLine}
+use Rattle.head.specs.Words.{thinWord, targetWord, withinWord, dash}
+use Rattle.head.specs.FirstLine.{capAt, targetAt, withinAt, noRule, ruleAt, sizesAt, headOf}
+use Rattle.head.specs.declared.CapField.{CapField}
+use Rattle.head.specs.declared.RuleField.{RuleField}
+use Rattle.head.proofs.Good.{good-sizes, good-head}
+use Rattle.form.specs.Form.{lineLong, isEntry, colWord, isColumn, endOf, wrongLine}
 use Rattle.form.specs.Reading.{weightPlace}
 use Rattle.form.specs.Sheets.{Wish, target, within, capText, wishText, headText, entriesText, columnText, columnsText, sheetText, capFits, wishFits, Fits, ruleOf, wishAt, sheetOf, Says}
-use Rattle.form.specs.declared.CapField.{CapField}
-use Rattle.form.specs.declared.RuleField.{RuleField}
 use Rattle.form.proofs.Segments.{Seg, seg-join, seg-whole, byte-seg, word-seg, bits-seg, count-seg, count-most}
-use Rattle.form.proofs.Verdicts.{good-sizes, good-head, sized}
+use Rattle.form.proofs.Verdicts.{sized}
 use Rattle.form.proofs.Lines.{right}
 
 -- a byte that is tested for

@@ -1,78 +1,15 @@
 -- The form of a sheet, by places: each line's length follows from the first line, so that every field's place is known.
 use Prim.Native.Nat.{ℕ, zero, suc, _+_, _*_}
-use mathlib.Core.Bool.{Bool, true, false, _&&_}
-use mathlib.Core.List.{List}
-use lib.Dec.{eqb, leb, ltb}
+use mathlib.Core.Bool.{Bool, _&&_}
+use mathlib.Core.List.{List, [], _∷_}
+use lib.Dec.{eqb, ltb}
 use lib.ListN.{length}
-use lib.Ieee.{binary64, ofBits}
 use Rattle.seq.specs.Choice.{pick}
 use Rattle.limits.specs.Limits.{allTo}
 use Rattle.fields.specs.Bytes.{tab, newline, byteAt, spelled}
-use Rattle.fields.specs.Fields.{isBits, bitsAt, countAt}
-use Rattle.rules.specs.declared.Cap.the-variants.{Absent, AtMost}
-use Rattle.rules.specs.declared.Rule.the-variants.{Target, Within}
-use Rattle.form.specs.Words.{thinWord, targetWord, withinWord, colWord, dash}
-use Rattle.form.specs.declared.CapField.{CapField}
-use Rattle.form.specs.declared.RuleField.{RuleField}
-use Rattle.form.specs.declared.Sizes.{Sizes}
-use Rattle.form.specs.declared.Head.{Head}
-
--- the cap at i: a dash or a count
-unfoldable pub capAt : List ℕ → ℕ → CapField
-capAt text i =
-    pick (eqb (byteAt text i) dash)
-    (record { ok = true; cap = Absent; next = suc i })
-    (record { ok = countAt text i .ok; cap = AtMost (countAt text i .value); next = countAt text i .next })
-
--- no rule
-abbrev pub noRule : RuleField
-noRule = record { ok = false; rule = Target 0; next = 0 }
-
--- the target at i, which stands after its word
-abbrev pub targetAt : List ℕ → ℕ → RuleField
-targetAt text i = record { ok = countAt text i .ok; rule = Target (countAt text i .value); next = countAt text i .next }
-
--- the allowance at i and the cap behind it, which stand after their word
-unfoldable pub withinAt : List ℕ → ℕ → RuleField
-withinAt text i =
-    record {
-      ok = isBits text i && (eqb (byteAt text (i + 16)) tab && capAt text (i + 17) .ok);
-      rule = Within (ofBits binary64 (bitsAt text i .value)) (capAt text (i + 17) .cap);
-      next = capAt text (i + 17) .next;
-    }
-
--- the rule at i: "target" or "within", and what belongs to it
-unfoldable pub ruleAt : List ℕ → ℕ → RuleField
-ruleAt text i =
-    pick (spelled targetWord text i) (targetAt text (i + 7))
-    (pick (spelled withinWord text i) (withinAt text (i + 7)) noRule)
-
--- the counts of columns and rows, at i and behind it: at most 32 and 64, and a tab after each
-unfoldable pub sizesAt : List ℕ → ℕ → Sizes
-sizesAt text i =
-    let j : ℕ = suc (countAt text i .next) in
-    record {
-      ok = (countAt text i .ok && (leb (countAt text i .value) 32 && eqb (byteAt text (countAt text i .next)) tab))
-          && (countAt text j .ok && (leb (countAt text j .value) 64 && eqb (byteAt text (countAt text j .next)) tab));
-      m = countAt text i .value;
-      n = countAt text j .value;
-      next = suc (countAt text j .next);
-    }
-
--- the first line: "thin", the sizes, the seed and the rule
-unfoldable pub headOf : List ℕ → Head
-headOf text =
-    let s : Sizes = sizesAt text 5 in
-    let r : RuleField = ruleAt text (s .next + 17) in
-    record {
-      ok = (spelled thinWord text 0 && s .ok)
-          && ((isBits text (s .next) && eqb (byteAt text (s .next + 16)) tab) && (r .ok && eqb (byteAt text (r .next)) newline));
-      m = s .m;
-      n = s .n;
-      seed = bitsAt text (s .next) .value;
-      rule = r .rule;
-      next = suc (r .next);
-    }
+use Rattle.fields.specs.Fields.{isBits}
+use Rattle.head.specs.FirstLine.{headOf}
+use Rattle.head.specs.declared.Head.{Head}
 
 -- how long a column's line is, with n entries
 abbrev pub lineLong : ℕ → ℕ
@@ -81,6 +18,10 @@ lineLong n = 21 + 17 * n
 -- an entry at i: a tab, and bits
 abbrev pub isEntry : List ℕ → ℕ → Bool
 isEntry text i = eqb (byteAt text i) tab && isBits text (suc i)
+
+-- "col", which opens a column's line, with the tab that follows it
+abbrev pub colWord : List ℕ
+colWord = 99 ∷ 111 ∷ 108 ∷ 9 ∷ []
 
 -- a column's line at i: "col", the weight's bits, n entries, and a newline
 unfoldable pub isColumn : List ℕ → ℕ → ℕ → Bool

@@ -1,5 +1,4 @@
 -- The form of a sheet: by places, as it is read, and as a text, as it is written.
-pub mod Words
 pub mod Form
 pub mod Reading
 pub mod Sheets

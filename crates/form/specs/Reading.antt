@@ -4,8 +4,8 @@ use mathlib.Core.List.{List}
 use lib.Ieee.{Float, binary64, ofBits}
 use Rattle.seq.specs.Lists.{tabulate}
 use Rattle.fields.specs.Fields.{bitsAt}
+use Rattle.head.specs.declared.Head.{Head}
 use Rattle.form.specs.Form.{lineLong}
-use Rattle.form.specs.declared.Head.{Head}
 
 -- the double whose bits stand at i
 abbrev pub doubleAt : List ℕ → ℕ → Float

@@ -14,8 +14,9 @@ use Rattle.rules.specs.declared.Cap.{Cap}
 use Rattle.rules.specs.declared.Cap.the-variants.{Absent, AtMost}
 use Rattle.rules.specs.declared.Rule.{Rule}
 use Rattle.rules.specs.declared.Rule.the-variants.{Target, Within}
-use Rattle.form.specs.Words.{thinWord, targetWord, withinWord, colWord, dash}
-use Rattle.form.specs.Form.{capAt, sizesAt, headOf, wrongLine}
+use Rattle.head.specs.Words.{thinWord, targetWord, withinWord, dash}
+use Rattle.head.specs.FirstLine.{capAt, sizesAt, headOf}
+use Rattle.form.specs.Form.{colWord, wrongLine}
 use Rattle.form.specs.Reading.{weightPlace, weightsOf, matrixOf}
 
 -- a rule as a sheet says it: the allowance by its bits

@@ -22,8 +22,9 @@ use Rattle.sparsification.specs.declared.Answer.{Answer}
 use Rattle.rules.specs.declared.Rule.{Rule}
 use Rattle.sparsification.specs.Answers.{returned, stopFor}
 use Rattle.stages.proofs.Lengths.{length-normalized, length-stage}
-use Rattle.form.specs.declared.Head.{Head}
-use Rattle.form.specs.Form.{headOf, wrongLine}
+use Rattle.head.specs.declared.Head.{Head}
+use Rattle.head.specs.FirstLine.{headOf}
+use Rattle.form.specs.Form.{wrongLine}
 use Rattle.form.specs.Reading.{doubleAt, weightPlace, weightsOf, matrixOf}
 use Rattle.form.proofs.Lines.{right}
 use Rattle.form.proofs.LongText.{long-text-is-wrong, first-bytes-same-line}

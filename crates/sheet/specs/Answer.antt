@@ -15,7 +15,8 @@ use Rattle.rules.specs.Rules.{ruleFault}
 use Rattle.faults.specs.Faults.{valueFault}
 use Rattle.sparsification.specs.Answers.{refusal, answerOf, returned}
 use Rattle.sheet.specs.Words.{okWord, weightWord, refusedWord, badWord}
-use Rattle.form.specs.Form.{headOf, wrongLine}
+use Rattle.head.specs.FirstLine.{headOf}
+use Rattle.form.specs.Form.{wrongLine}
 use Rattle.form.specs.Reading.{weightsOf, matrixOf}
 
 -- a word and a number: "refused" with the refusal's, "bad" with the line's

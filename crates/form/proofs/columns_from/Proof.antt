@@ -1,5 +1,5 @@
 -- `form::columns_from` meets its contract: after j turns j columns are passed, and what stands from there is what is left to count.
-use Rattle.form.proofs.Places.{column-room}
+use Rattle.form.proofs.Rooms.{column-room}
 use Rattle.form.proofs.Columns.{Passed, passed-start, passed-turn, passed-left, passed-whole}
 use borrow.Author.Needs.{needs}
 use Prim.Native.Nat.{_-_}

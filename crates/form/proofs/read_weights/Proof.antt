@@ -1,7 +1,7 @@
 -- `form::read_weights` meets its contract: the loop fills the weights, and every place is small enough.
 use Rattle.seq.proofs.Filling.{Filled, start, turn, whole}
 use Rattle.form.specs.Reading.{doubleAt, weightPlace}
-use Rattle.form.proofs.Places.{column-room}
+use Rattle.form.proofs.Rooms.{column-room}
 use borrow.Author.Needs.{needs}
 use Prim.Native.Nat.{_-_}
 use native.Mathlib.Omega.{arith}

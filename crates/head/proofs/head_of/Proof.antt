@@ -1,9 +1,9 @@
--- `form::head_of` meets its contract: each part is read where the one before it ends, and each ends at most so many bytes on that no sum wraps.
-use Rattle.form.proofs.Fields.{next-sizes, next-rule, head-is}
+-- `head::head_of` meets its contract: each part is read where the one before it ends, and each ends at most so many bytes on that no sum wraps.
+use Rattle.head.proofs.Fields.{next-sizes, next-rule, head-is}
 use borrow.Author.Needs.{needs}
 use native.Mathlib.Omega.{arith}
-use Rattle.form.proofs.head_of.Statement.{statement}
-use Rattle.form.proofs.head_of.Tie as tie
+use Rattle.head.proofs.head_of.Statement.{statement}
+use Rattle.head.proofs.head_of.Tie as tie
 
 slice-aggregate-spells : tie.Need-slice-aggregate-spells
 slice-aggregate-spells c = search needs

@@ -1,9 +1,9 @@
--- `form::sizes_at` meets its contract: each count is read where the byte before it stands, and ends at most eleven bytes on.
-use Rattle.form.proofs.Fields.{next-count, sizes-is}
+-- `head::sizes_at` meets its contract: each count is read where the byte before it stands, and ends at most eleven bytes on.
+use Rattle.head.proofs.Fields.{next-count, sizes-is}
 use borrow.Author.Needs.{needs}
 use native.Mathlib.Omega.{arith}
-use Rattle.form.proofs.sizes_at.Statement.{statement}
-use Rattle.form.proofs.sizes_at.Tie as tie
+use Rattle.head.proofs.sizes_at.Statement.{statement}
+use Rattle.head.proofs.sizes_at.Tie as tie
 
 count-at-requires : tie.Need-count-at-requires
 count-at-requires c κs = search needs

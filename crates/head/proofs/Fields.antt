@@ -14,12 +14,12 @@ use Rattle.fields.proofs.Widths.{count-next}
 use Rattle.fields.specs.declared.Field.{Field}
 use Rattle.rules.specs.declared.Cap.the-variants.{Absent, AtMost}
 use Rattle.rules.specs.declared.Rule.the-variants.{Within}
-use Rattle.form.specs.Words.{thinWord, targetWord, withinWord, dash}
-use Rattle.form.specs.Form.{capAt, targetAt, withinAt, noRule, ruleAt, sizesAt, headOf}
-use Rattle.form.proofs.Places.{sizes-next, rule-next}
-use Rattle.form.specs.declared.CapField.{CapField}
-use Rattle.form.specs.declared.RuleField.{RuleField}
-use Rattle.form.specs.declared.Sizes.{Sizes}
+use Rattle.head.specs.Words.{thinWord, targetWord, withinWord, dash}
+use Rattle.head.specs.FirstLine.{capAt, targetAt, withinAt, noRule, ruleAt, sizesAt, headOf}
+use Rattle.head.proofs.Places.{sizes-next, rule-next}
+use Rattle.head.specs.declared.CapField.{CapField}
+use Rattle.head.specs.declared.RuleField.{RuleField}
+use Rattle.head.specs.declared.Sizes.{Sizes}
 
 pub cap-dash : (t : List ℕ) (i b : ℕ) → b ≡ byteAt t i → b ≡ 45 → record { ok = true; cap = Absent; next = i + 1 } ≡ capAt t i
 unfolding capAt

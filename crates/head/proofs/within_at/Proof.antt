@@ -1,8 +1,8 @@
--- `form::within_at` meets its contract: each part is read at its place.
-use Rattle.form.proofs.Fields.{within-is}
+-- `head::within_at` meets its contract: each part is read at its place.
+use Rattle.head.proofs.Fields.{within-is}
 use borrow.Author.Needs.{needs}
-use Rattle.form.proofs.within_at.Statement.{statement}
-use Rattle.form.proofs.within_at.Tie as tie
+use Rattle.head.proofs.within_at.Statement.{statement}
+use Rattle.head.proofs.within_at.Tie as tie
 
 bits-at-requires : tie.Need-bits-at-requires
 bits-at-requires c κs = search needs

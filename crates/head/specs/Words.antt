@@ -1,4 +1,4 @@
--- The words of a sheet, each with the tab that follows it.
+-- The words of the first line, each with the tab that follows it.
 use Prim.Native.Nat.{ℕ}
 use mathlib.Core.List.{List, [], _∷_}
 
@@ -13,10 +13,6 @@ targetWord = 116 ∷ 97 ∷ 114 ∷ 103 ∷ 101 ∷ 116 ∷ 9 ∷ []
 -- "within"
 abbrev pub withinWord : List ℕ
 withinWord = 119 ∷ 105 ∷ 116 ∷ 104 ∷ 105 ∷ 110 ∷ 9 ∷ []
-
--- "col", which opens a column's line
-abbrev pub colWord : List ℕ
-colWord = 99 ∷ 111 ∷ 108 ∷ 9 ∷ []
 
 -- "-", the absent cap
 abbrev pub dash : ℕ

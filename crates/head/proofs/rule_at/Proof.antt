@@ -1,8 +1,8 @@
--- `form::rule_at` meets its contract: by the first word that stands there, if any.
-use Rattle.form.proofs.Fields.{rule-target, rule-within, rule-none}
+-- `head::rule_at` meets its contract: by the first word that stands there, if any.
+use Rattle.head.proofs.Fields.{rule-target, rule-within, rule-none}
 use borrow.Author.Needs.{needs}
-use Rattle.form.proofs.rule_at.Statement.{statement}
-use Rattle.form.proofs.rule_at.Tie as tie
+use Rattle.head.proofs.rule_at.Statement.{statement}
+use Rattle.head.proofs.rule_at.Tie as tie
 
 slice-aggregate-spells : tie.Need-slice-aggregate-spells
 slice-aggregate-spells c = search needs

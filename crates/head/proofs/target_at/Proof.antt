@@ -1,7 +1,7 @@
--- `form::target_at` meets its contract: it is the count that stands there.
+-- `head::target_at` meets its contract: it is the count that stands there.
 use borrow.Author.Needs.{needs}
-use Rattle.form.proofs.target_at.Statement.{statement}
-use Rattle.form.proofs.target_at.Tie as tie
+use Rattle.head.proofs.target_at.Statement.{statement}
+use Rattle.head.proofs.target_at.Tie as tie
 
 count-at-requires : tie.Need-count-at-requires
 count-at-requires c κs = search needs

@@ -1,8 +1,8 @@
--- `form::cap_at` meets its contract: a dash is no count, and anything else is read as one.
-use Rattle.form.proofs.Fields.{cap-dash, cap-count}
+-- `head::cap_at` meets its contract: a dash is no count, and anything else is read as one.
+use Rattle.head.proofs.Fields.{cap-dash, cap-count}
 use borrow.Author.Needs.{needs}
-use Rattle.form.proofs.cap_at.Statement.{statement}
-use Rattle.form.proofs.cap_at.Tie as tie
+use Rattle.head.proofs.cap_at.Statement.{statement}
+use Rattle.head.proofs.cap_at.Tie as tie
 
 byte-at-requires : tie.Need-byte-at-requires
 byte-at-requires c κs = search needs
