@@ -1,4 +1,4 @@
-// The first line of a sheet, which fixes where every column stands: the counts of columns and rows, the seed and the rule; and how a bit pattern is read as a double, here for the allowance, in `form` for the columns.
+// The first line of a sheet, which fixes where every column stands: the counts of columns and rows, the seed and the rule.
 use fields::bits_at;
 use fields::byte_at;
 use fields::count_at;
@@ -42,7 +42,7 @@ pub struct Head {
     pub next: usize,
 }
 
-// The double of a bit pattern; every pattern of a NaN is the NaN.
+// The double of a bit pattern, here the allowance, and in `form` a weight or an entry; every pattern of a NaN is the NaN.
 pub fn double(bits: u64) -> f64
     ensures { λ r. ⌜ r ≡ ofBits binary64 bits ⌝ }
 {
