@@ -1,7 +1,8 @@
 /* knobthistle.h: the calls of libknobthistle.a, for C and C++.
 
-   Link: cc host.c libknobthistle.a. The archive is for x86-64 Linux. It needs no other library, takes no memory of its own, keeps
-   nothing between calls and never traps: every call below answers for every argument. Each was proved to do what is said here.
+   Link: cc host.c libknobthistle.a. The archive is for x86-64 Linux, or for Arm as the project's script oracle/host-archive makes it.
+   It needs no other library, takes no memory of its own, keeps nothing between calls and never traps: every call below answers for
+   every argument. Each was proved to do what is said here.
 
    A draw's bits are the same on every machine: nothing is left to the platform's mathematical library. They are draw edition 1. */
 
@@ -82,27 +83,27 @@ typedef struct {
     double change;     /* the largest change of a row's margin from the normalised weights to those returned */
 } knob_answer;
 
-/* The record is returned as C does on x86-64. On Arm the project's own script oracle/host-archive makes an archive in which such a
-   call takes the address of its answer as its first parameter and returns that address: there declare
-   knob_answer *knob_sparsify(knob_answer *answer, const double *matrix, ..) and so on. */
-
 /* Thins weights to at most `target` nonzeros: the first stage that has no more. The weights are divided by the sum of their
    magnitudes (stage 0); each pass then keeps the largest third as it is and, of the rest, about a quarter, doubled twice, so that every
    row's margin, the sum of entry times weight over the columns, stays near what it was. Signs are kept, and a weight that is 0 stays 0.
    The seed starts the generator, which runs on through all passes. The weights thinned are written to output, m of them. */
+#if !defined(__aarch64__) /* there, see the end */
 knob_answer knob_sparsify(const double *matrix, size_t matrix_length, size_t m, size_t n,
                           const double *weights, size_t weights_length, uint64_t seed, size_t target,
                           double *output, size_t output_length,
                           double *numbers, size_t numbers_length, uint32_t *indices, size_t indices_length);
+#endif
 
 /* Thins weights as far as no margin changes by more than `allowance` from stage 0: the last stage before the first that exceeds it, or
    the one with a single nonzero. If capped is not 0, `cap` comes first: passes go on until at most cap nonzeros are left, even where
    the allowance is exceeded; see `change` in the answer. If capped is 0 there is no cap, and the value of cap does not matter. */
+#if !defined(__aarch64__) /* there, see the end */
 knob_answer knob_sparsify_within(const double *matrix, size_t matrix_length, size_t m, size_t n,
                                  const double *weights, size_t weights_length, uint64_t seed,
                                  double allowance, uint32_t capped, size_t cap,
                                  double *output, size_t output_length,
                                  double *numbers, size_t numbers_length, uint32_t *indices, size_t indices_length);
+#endif
 
 /* A signing of the columns by 1 and -1 (m of them, written to output) that tries to keep every row's sum of entry times sign small. Entries may
    be any doubles up to 2^32 in magnitude. The seed starts the generator. Answers 0, 3, 4, 6 or 11. No columns or no rows are fine. */
@@ -132,6 +133,42 @@ uint64_t knob_turned_words(const double *matrix, size_t matrix_length, size_t m,
    answer_length, 0, and nothing is written. KNOB_SHEET_ANSWER bytes are enough for every answer. Uses about 80 KiB of stack. */
 #define KNOB_SHEET_ANSWER 1342
 size_t knob_thin_sheet(const uint8_t *text, size_t text_length, uint8_t *answer, size_t answer_length);
+
+#if defined(__aarch64__)
+/* On Arm the archive's calls write a record through an address, their first parameter, which is not how C returns one there. So the
+   two are declared as they are, and each name then stands for a function of the form above. */
+knob_answer *knob_sparsify(knob_answer *answer, const double *matrix, size_t matrix_length, size_t m, size_t n,
+                           const double *weights, size_t weights_length, uint64_t seed, size_t target,
+                           double *output, size_t output_length,
+                           double *numbers, size_t numbers_length, uint32_t *indices, size_t indices_length);
+knob_answer *knob_sparsify_within(knob_answer *answer, const double *matrix, size_t matrix_length, size_t m, size_t n,
+                                  const double *weights, size_t weights_length, uint64_t seed,
+                                  double allowance, uint32_t capped, size_t cap,
+                                  double *output, size_t output_length,
+                                  double *numbers, size_t numbers_length, uint32_t *indices, size_t indices_length);
+
+static inline knob_answer knob_sparsify_returned(const double *matrix, size_t matrix_length, size_t m, size_t n,
+                                                 const double *weights, size_t weights_length, uint64_t seed, size_t target,
+                                                 double *output, size_t output_length,
+                                                 double *numbers, size_t numbers_length, uint32_t *indices, size_t indices_length) {
+    knob_answer answer;
+    return *knob_sparsify(&answer, matrix, matrix_length, m, n, weights, weights_length, seed, target, output, output_length,
+                          numbers, numbers_length, indices, indices_length);
+}
+
+static inline knob_answer knob_sparsify_within_returned(const double *matrix, size_t matrix_length, size_t m, size_t n,
+                                                        const double *weights, size_t weights_length, uint64_t seed,
+                                                        double allowance, uint32_t capped, size_t cap,
+                                                        double *output, size_t output_length,
+                                                        double *numbers, size_t numbers_length, uint32_t *indices, size_t indices_length) {
+    knob_answer answer;
+    return *knob_sparsify_within(&answer, matrix, matrix_length, m, n, weights, weights_length, seed, allowance, capped, cap,
+                                 output, output_length, numbers, numbers_length, indices, indices_length);
+}
+
+#define knob_sparsify knob_sparsify_returned
+#define knob_sparsify_within knob_sparsify_within_returned
+#endif
 
 #ifdef __cplusplus
 }

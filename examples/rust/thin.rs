@@ -9,8 +9,10 @@ struct Answer {
     change: f64,
 }
 
+// The call writes its answer through an address, and returns that address. On x86-64 this is how C returns such a record.
 extern "C" {
     fn knob_sparsify_within(
+        answer: *mut Answer,
         matrix: *const f64,
         matrix_length: usize,
         m: usize,
@@ -27,7 +29,7 @@ extern "C" {
         numbers_length: usize,
         indices: *mut u32,
         indices_length: usize,
-    ) -> Answer;
+    ) -> *mut Answer;
 }
 
 fn main() {
@@ -37,8 +39,15 @@ fn main() {
     let mut output = [0.0; 2];
     let mut numbers = vec![0.0; m * (n + 1) + m * m + 16 * m + 8 * (n + 1)];
     let mut indices = vec![0; 8 * (m + n + 1)];
-    let a = unsafe {
+    let mut a = Answer {
+        number: 0,
+        stage: 0,
+        nonzeros: 0,
+        change: 0.0,
+    };
+    unsafe {
         knob_sparsify_within(
+            &mut a,
             matrix.as_ptr(),
             matrix.len(),
             m,
@@ -55,8 +64,8 @@ fn main() {
             numbers.len(),
             indices.as_mut_ptr(),
             indices.len(),
-        )
-    };
+        );
+    }
     if a.number != 0 {
         println!("refused {}", a.number);
         std::process::exit(1);
