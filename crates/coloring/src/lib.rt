@@ -33,7 +33,7 @@ fn count_free(free: &[u32]) -> usize
     l
 }
 
-// Phases until no coordinate is free. x is all 0.0, free all set and A x all 0.0.
+// Phases until no coordinate is free. x is all 0.0, free all set and A x all 0.0. The arrays are room that the phases share.
 fn walk(
     num: &mut [f64],
     blocked: &mut [u32],
