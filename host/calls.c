@@ -1,0 +1,262 @@
+/* calls.c: makes every call of the library with arguments that all differ, and holds its answers, which all differ too, to what they must be.
+
+   No order of arguments is written here: each call stands in by_name.h as a macro that takes the variables of the parameters' names in the
+   order in which some file declares them (`names` writes it, `test` and `exchange` say of which file). So an exchange of two parameters of
+   one type in that file, or in the source that the archive was built from, gives other answers here, and so does an exchange of two fields
+   of the record. A few exchanges change no answer of any call, as that of two lengths which have to be equal: see `names -s` for those.
+
+   What the thinnings and the colouring must be is what the original gives with this library's draw; the draws are those of oracle/vectors.
+   Every array has room for the longest, so that no wrong length leads out of one. Exit status: 0 all is as it must be, 1 not. */
+#include <stdio.h>
+#include <string.h>
+
+#include "knobthistle.h"
+
+#include "by_name.h"
+
+#define ROOM 4096
+#define NOISE 0x5AA5C33C0FF0E11Eu
+
+static double matrix_room[ROOM], weights_room[ROOM], before_room[ROOM], after_room[ROOM], output_room[ROOM], numbers_room[ROOM];
+static int8_t signs_room[ROOM];
+static uint32_t indices_room[ROOM];
+static uint8_t text_room[ROOM], answer_room[ROOM];
+
+static int wrong = 0;
+
+static void hold(const char *what, int right) {
+    if (right) return;
+    wrong = 1;
+    printf("%s is not what it must be\n", what);
+}
+
+static uint64_t bits(double x) {
+    uint64_t word;
+    memcpy(&word, &x, sizeof word);
+    return word;
+}
+
+static double number(uint64_t word) {
+    double x;
+    memcpy(&x, &word, sizeof x);
+    return x;
+}
+
+/* What is lent to be written is full of noise before a call. */
+static void lend(void) {
+    for (size_t k = 0; k < ROOM; k++) {
+        output_room[k] = numbers_room[k] = number(NOISE);
+        signs_room[k] = 0x5A;
+        indices_room[k] = (uint32_t)NOISE;
+        answer_room[k] = 0x5A;
+    }
+}
+
+/* An accepted call left exactly so much of both scratches zero. */
+static int wiped(size_t numbers_length, size_t indices_length) {
+    for (size_t k = 0; k < ROOM; k++) {
+        if (bits(numbers_room[k]) != (k < numbers_length ? 0 : NOISE)) return 0;
+        if (indices_room[k] != (k < indices_length ? 0 : (uint32_t)NOISE)) return 0;
+    }
+    return 1;
+}
+
+/* Nothing that was lent has been written. */
+static int untouched(void) {
+    for (size_t k = 0; k < ROOM; k++)
+        if (bits(output_room[k]) != NOISE || signs_room[k] != 0x5A) return 0;
+    return wiped(0, 0);
+}
+
+static int answers(knob_answer a, uint64_t no, uint64_t stage, uint64_t nonzeros, uint64_t change) {
+    return a.number == no && a.stage == stage && a.nonzeros == nonzeros && bits(a.change) == change;
+}
+
+/* A weight that is left: its place, and its bits. */
+struct left {
+    size_t place;
+    uint64_t weight;
+};
+
+/* The output has these weights, zeros elsewhere, and noise behind. */
+static int thinned(size_t m, const struct left *left, size_t count) {
+    for (size_t j = 0, k = 0; j < ROOM; j++) {
+        uint64_t expected = j < m ? 0 : NOISE;
+        if (k < count && left[k].place == j) expected = left[k++].weight;
+        if (bits(output_room[j]) != expected) return 0;
+    }
+    return 1;
+}
+
+/* Entries from -1 to 1, and weights of both signs. */
+static void fill(size_t m, size_t n) {
+    for (size_t j = 0; j < m; j++) {
+        for (size_t i = 0; i < n; i++) matrix_room[j * n + i] = ((double)((j * 37 + i * i * 11 + j * i) % 9) - 4.0) / 4.0;
+        weights_room[j] = (j % 5 == 2 ? -1.0 : 1.0) * (1.0 + (double)(j * j % 11));
+    }
+}
+
+static void draws(void) {
+    {
+        uint64_t ours = 0x61C8864680B583EBu, *state = &ours; /* C10 */
+        hold("knob_uniform", CALL_knob_uniform == 1.0 / 18014398509481984.0 && ours == 0);
+    }
+    {
+        uint64_t ours = 3, *state = &ours;
+        hold("knob_gaussian", bits(CALL_knob_gaussian) == 0xBFE4837E94C544CCu && ours == 0x3C6EF372FE94F82Du);
+    }
+    {
+        const double x = 2.0;
+        hold("knob_sqrt", bits(CALL_knob_sqrt) == 0x3FF6A09E667F3BCDu);
+    }
+    {
+        const uint64_t word = 0x1D0B14E4DB018FEDu;
+        hold("knob_log_draw", bits(CALL_knob_log_draw) == 0xC001693F301DF160u);
+    }
+    {
+        const uint64_t word = 0xB3466F8A7B81A989u;
+        hold("knob_cos_draw", bits(CALL_knob_cos_draw) == 0xBFD3AA3076A982D8u);
+    }
+}
+
+static void sparsify(void) {
+    const double *matrix = matrix_room, *weights = weights_room;
+    double *output = output_room, *numbers = numbers_room;
+    uint32_t *indices = indices_room;
+    {
+        const size_t m = 24, n = 5, matrix_length = 120, weights_length = 24, output_length = 24;
+        const size_t numbers_length = KNOB_NUMBERS(24, 5), indices_length = KNOB_INDICES(24, 5), target = 7;
+        const uint64_t seed = 3;
+        static const struct left left[] = {{3, 0x3FB826A439F656F2u}, {4, 0x3FCCFB2B78C13523u}, {5, 0x3FC3521CFB2B78C2u},
+                                           {17, 0xBFC3521CFB2B78C2u}, {19, 0x3FD826A439F656F2u}};
+        fill(m, n);
+        lend();
+        hold("knob_sparsify, its record", answers(CALL_knob_sparsify, 0, 2, 5, 0x3FDC6EF752A04B3Cu));
+        hold("knob_sparsify", thinned(m, left, 5) && wiped(numbers_length, indices_length));
+    }
+    { /* No two of these are equal. */
+        const size_t m = 257, n = 5, matrix_length = 6, weights_length = 7, output_length = 8;
+        const size_t numbers_length = 9, indices_length = 10, target = 11;
+        const uint64_t seed = 12;
+        lend();
+        hold("knob_sparsify, refused", answers(CALL_knob_sparsify, 3, 0, 0, 0) && untouched());
+    }
+}
+
+static void sparsify_within(void) {
+    const double *matrix = matrix_room, *weights = weights_room;
+    double *output = output_room, *numbers = numbers_room;
+    uint32_t *indices = indices_room;
+    {
+        const size_t m = 40, n = 7, matrix_length = 280, weights_length = 40, output_length = 40;
+        const size_t numbers_length = KNOB_NUMBERS(40, 7), indices_length = KNOB_INDICES(40, 7), cap = 12;
+        const uint64_t seed = 4;
+        const uint32_t capped = 1;
+        const double allowance = 0.03125;
+        static const struct left left[] = {{3, 0x3FB0690690690690u}, {7, 0xBFC3B13B13B13B14u}, {8, 0x3FB0690690690690u},
+                                           {16, 0x3FBA41A41A41A41Au}, {17, 0xBFBA41A41A41A41Au}, {20, 0x3FC0690690690690u},
+                                           {35, 0x3FC0690690690690u}, {36, 0x3FD0690690690690u}};
+        fill(m, n);
+        lend();
+        hold("knob_sparsify_within, its record", answers(CALL_knob_sparsify_within, 0, 2, 8, 0x3FD171B8E4FA2B41u));
+        hold("knob_sparsify_within", thinned(m, left, 8) && wiped(numbers_length, indices_length));
+    }
+    { /* C2 */
+        const size_t m = 2, n = 2, matrix_length = 4, weights_length = 2, output_length = 2;
+        const size_t numbers_length = KNOB_NUMBERS(2, 2), indices_length = KNOB_INDICES(2, 2), cap = 1;
+        const uint64_t seed = 5;
+        const uint32_t capped = 0;
+        const double allowance = number(0x3FDFFFFFFFFFFFFFu);
+        static const struct left left[] = {{0, 0x3FD0000000000000u}, {1, 0x3FE8000000000000u}};
+        memcpy(matrix_room, (double[]){1.0, 1.0, 1.0, -1.0}, 4 * sizeof(double));
+        memcpy(weights_room, (double[]){1.0, 3.0}, 2 * sizeof(double));
+        lend();
+        hold("C2, its record", answers(CALL_knob_sparsify_within, 0, 0, 2, 0));
+        hold("C2", thinned(m, left, 2) && wiped(numbers_length, indices_length));
+    }
+    { /* No two of these are equal. */
+        const size_t m = 257, n = 5, matrix_length = 6, weights_length = 7, output_length = 8;
+        const size_t numbers_length = 9, indices_length = 10, cap = 11;
+        const uint64_t seed = 12;
+        const uint32_t capped = 1;
+        const double allowance = 0.5;
+        lend();
+        hold("knob_sparsify_within, refused", answers(CALL_knob_sparsify_within, 3, 0, 0, 0) && untouched());
+    }
+}
+
+static void discrepancy_coloring(void) {
+    const double *matrix = matrix_room;
+    double *numbers = numbers_room;
+    int8_t *output = signs_room;
+    uint32_t *indices = indices_room;
+    {
+        const size_t m = 9, n = 4, matrix_length = 36, output_length = 9;
+        const size_t numbers_length = KNOB_NUMBERS(9, 4), indices_length = KNOB_INDICES(9, 4);
+        const uint64_t seed = 6;
+        static const int8_t signs[] = {1, -1, -1, -1, 1, -1, 1, 1, -1, 0x5A};
+        fill(m, n);
+        lend();
+        hold("knob_discrepancy_coloring, its number", CALL_knob_discrepancy_coloring == 0);
+        hold("knob_discrepancy_coloring", memcmp(signs_room, signs, sizeof signs) == 0 && wiped(numbers_length, indices_length));
+    }
+    { /* No two of these are equal. */
+        const size_t m = 257, n = 5, matrix_length = 6, output_length = 8, numbers_length = 9, indices_length = 10;
+        const uint64_t seed = 12;
+        lend();
+        hold("knob_discrepancy_coloring, refused", CALL_knob_discrepancy_coloring == 3 && untouched());
+    }
+}
+
+/* Three columns of four rows; by hand. */
+static void margins(void) {
+    static const double columns[] = {0.5, -1.0, 0.25, 1.0, 1.0, 0.5, -0.5, -0.25, -1.0, 0.75, 1.0, -0.5};
+    const double *matrix = matrix_room, *before = before_room, *after = after_room;
+    memcpy(matrix_room, columns, sizeof columns);
+    memcpy(before_room, (double[]){1.0, 2.0, 3.0}, 3 * sizeof(double));
+    memcpy(after_room, (double[]){4.0, -2.0, -0.5}, 3 * sizeof(double));
+    {
+        const size_t m = 3, n = 4, matrix_length = 12, before_length = 3, after_length = 3;
+        double ours = -7.0, *change = &ours;
+        hold("knob_max_margin_change, its number", CALL_knob_max_margin_change == 0);
+        hold("knob_max_margin_change", ours == 7.625);
+    }
+    {
+        const size_t m = 3, n = 4, matrix_length = 12, before_length = 3, after_length = 3;
+        uint64_t ours = 77, *count = &ours;
+        hold("knob_turned_words, its number", CALL_knob_turned_words == 0);
+        hold("knob_turned_words", ours == 1);
+    }
+    { /* No two of these are equal. */
+        const size_t m = 257, n = 5, matrix_length = 6, before_length = 7, after_length = 8;
+        double moved = -7.0, *change = &moved;
+        uint64_t turned = 77, *count = &turned;
+        hold("knob_max_margin_change, refused", CALL_knob_max_margin_change == 3 && bits(moved) == 0);
+        hold("knob_turned_words, refused", CALL_knob_turned_words == 3 && turned == 0);
+    }
+}
+
+/* C2, as a sheet. */
+static void thin_sheet(void) {
+    static const char sheet[] = "thin\t2\t2\t0000000000000000\twithin\t3FDFFFFFFFFFFFFF\t-\n"
+                                "col\t3FF0000000000000\t3FF0000000000000\t3FF0000000000000\n"
+                                "col\t4008000000000000\t3FF0000000000000\tBFF0000000000000\n";
+    static const char expected[] = "ok\t0\t2\t0000000000000000\nw\t0\t3FD0000000000000\nw\t1\t3FE8000000000000\n\x5A";
+    const uint8_t *text = text_room;
+    uint8_t *answer = answer_room;
+    const size_t text_length = sizeof sheet - 1, answer_length = KNOB_SHEET_ANSWER;
+    memcpy(text_room, sheet, sizeof sheet);
+    lend();
+    hold("knob_thin_sheet, its length", CALL_knob_thin_sheet == sizeof expected - 2);
+    hold("knob_thin_sheet", memcmp(answer_room, expected, sizeof expected - 1) == 0);
+}
+
+int main(void) {
+    draws();
+    sparsify();
+    sparsify_within();
+    discrepancy_coloring();
+    margins();
+    thin_sheet();
+    return wrong;
+}

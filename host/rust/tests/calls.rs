@@ -1,0 +1,69 @@
+//! Every safe call with arguments that all differ, and answers that all differ: the jobs of host/calls.c. So an exchange of two arguments
+//! or of two fields on the way to the archive and back gives another answer here.
+
+use knobthistle::{discrepancy_coloring, max_margin_change, sparsify, sparsify_within, thin, turned_words, Job, Rule, Thinned};
+
+/// Entries from -1 to 1.
+fn columns(m: usize, n: usize) -> Vec<Vec<f64>> {
+    (0..m).map(|j| (0..n).map(|i| ((j * 37 + i * i * 11 + j * i) % 9) as f64 / 4.0 - 1.0).collect()).collect()
+}
+
+/// Weights of both signs.
+fn weights(m: usize) -> Vec<f64> {
+    (0..m).map(|j| if j % 5 == 2 { -1.0 } else { 1.0 } * (1 + j * j % 11) as f64).collect()
+}
+
+/// A thinned ensemble of so many weights, of which these are left.
+fn answer(m: usize, stage: usize, nonzeros: usize, change: u64, left: &[(usize, u64)]) -> Thinned {
+    let mut weights = vec![0.0; m];
+    left.iter().for_each(|(place, bits)| weights[*place] = f64::from_bits(*bits));
+    Thinned { weights, stage, nonzeros, change: f64::from_bits(change) }
+}
+
+#[test]
+fn target() {
+    let left = [
+        (3, 0x3FB826A439F656F2),
+        (4, 0x3FCCFB2B78C13523),
+        (5, 0x3FC3521CFB2B78C2),
+        (17, 0xBFC3521CFB2B78C2),
+        (19, 0x3FD826A439F656F2),
+    ];
+    let expected = answer(24, 2, 5, 0x3FDC6EF752A04B3C, &left);
+    let (columns, weights) = (columns(24, 5), weights(24));
+    assert_eq!(sparsify(&columns, &weights, 7, 3).as_ref(), Ok(&expected.weights));
+    assert_eq!(thin(&columns, &weights, Job { seed: 3, rule: Rule::Target(7) }), Ok(expected));
+}
+
+#[test]
+fn within() {
+    let left = [
+        (3, 0x3FB0690690690690),
+        (7, 0xBFC3B13B13B13B14),
+        (8, 0x3FB0690690690690),
+        (16, 0x3FBA41A41A41A41A),
+        (17, 0xBFBA41A41A41A41A),
+        (20, 0x3FC0690690690690),
+        (35, 0x3FC0690690690690),
+        (36, 0x3FD0690690690690),
+    ];
+    let expected = answer(40, 2, 8, 0x3FD171B8E4FA2B41, &left);
+    let (columns, weights) = (columns(40, 7), weights(40));
+    assert_eq!(sparsify_within(&columns, &weights, 0.03125, Some(12), 4).as_ref(), Ok(&expected.weights));
+    assert_eq!(thin(&columns, &weights, Job { seed: 4, rule: Rule::Within { allowance: 0.03125, cap: Some(12) } }), Ok(expected));
+}
+
+#[test]
+fn coloring() {
+    assert_eq!(discrepancy_coloring(&columns(9, 4), 6), Ok(vec![1, -1, -1, -1, 1, -1, 1, 1, -1]));
+}
+
+/// Three columns of four rows; by hand.
+#[test]
+fn margins() {
+    let columns = vec![vec![0.5, -1.0, 0.25, 1.0], vec![1.0, 0.5, -0.5, -0.25], vec![-1.0, 0.75, 1.0, -0.5]];
+    let (before, after) = ([1.0, 2.0, 3.0], [4.0, -2.0, -0.5]);
+    assert_eq!(max_margin_change(&columns, &before, &after), Ok(7.625));
+    assert_eq!(turned_words(&columns, &before, &after), Ok(1));
+    assert_eq!(turned_words(&columns, &after, &before), Ok(2));
+}
