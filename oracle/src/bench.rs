@@ -92,6 +92,6 @@ fn main() {
     let mut chance = Chance::new("bench", 5);
     println!("{:<44} {:>12} {:>12} {:>8}", "best times", "original", "ours", "ratio");
     gaussians();
-        colorings(&mut chance);
-        jobs(&mut chance, &folder);
+    colorings(&mut chance);
+    jobs(&mut chance, &folder);
 }

@@ -1,6 +1,7 @@
 // needs: knob_gaussian knob_sparsify knob_sparsify_within
 //! Thinning jobs: weights, stage, nonzeros and change against the original's own functions with our draw, every refusal against a
-//! table written here, and pairs of jobs on one ensemble and seed against each other. Argument: the folder of archived ensembles.
+//! table written here, and pairs of jobs on one ensemble and seed against each other: any two read one path, and of two whose rules are
+//! so ordered the second is no earlier and keeps what its rule asks. Argument: the folder of archived ensembles.
 
 #[path = "shared/chance.rs"]
 mod chance;
@@ -96,6 +97,7 @@ struct Comparison {
     scratch: Tally,
     inputs: Tally,
     refusals: Tally,
+    paths: Tally,
     pairs: Tally,
 }
 
@@ -126,9 +128,15 @@ impl Comparison {
             all.push(made);
         }
         for (i, one) in all.iter().enumerate() {
-            for other in &all[..i] {
-                self.pairs
-                    .note(on_one_path(one, other), || format!("{} columns, {} rows, seed {:016X}, rules {rules:?}", e.m, e.n, e.seed));
+            for (k, other) in all.iter().enumerate() {
+                let name = || format!("{} columns, {} rows, seed {:016X}, {:?} and {:?}", e.m, e.n, e.seed, rules[i], rules[k]);
+                if i < k {
+                    self.paths.note(on_one_path(one, other), name);
+                }
+                if i != k && allows(rules[i], rules[k]) {
+                    let later = one.answer.stage <= other.answer.stage && on_one_path(one, other);
+                    self.pairs.note(later && keeps(rules[k], &other.answer), name);
+                }
             }
         }
     }
@@ -166,6 +174,26 @@ fn on_one_path(one: &Made, other: &Made) -> bool {
     let doubles = |made: &Made| made.output.content().iter().map(|w| f64::from_bits(*w)).collect::<Vec<_>>();
     let kept = |(before, after): (f64, f64)| after == 0.0 || (after > 0.0 && before > 0.0) || (after < 0.0 && before < 0.0);
     late.answer.nonzeros < early.answer.nonzeros && doubles(early).into_iter().zip(doubles(late)).all(kept)
+}
+
+/// Demand 3's order of rules: the second is of the first's kind and allows at least as much thinning. Beside a cap the second has to have
+/// one that is no larger.
+fn allows(first: Rule, second: Rule) -> bool {
+    match (first, second) {
+        (Rule::Target(one), Rule::Target(other)) => other <= one,
+        (Rule::Within(one, cap), Rule::Within(other, other_cap)) => {
+            one <= other && cap.map_or(true, |cap| other_cap.map_or(false, |other_cap| other_cap <= cap))
+        }
+        _ => false,
+    }
+}
+
+/// What a rule asks of its answer: the target or the cap, or else the allowance.
+fn keeps(rule: Rule, answer: &Answer) -> bool {
+    match rule {
+        Rule::Target(most) | Rule::Within(_, Some(most)) => answer.nonzeros <= most as u64,
+        Rule::Within(allowance, None) => answer.change <= allowance,
+    }
 }
 
 fn weights(m: usize, chance: &mut Chance) -> Vec<f64> {
@@ -292,7 +320,8 @@ fn main() {
         scratch: Tally::new("thinning, scratch wiped"),
         inputs: Tally::new("thinning, inputs kept"),
         refusals: Tally::new("thinning, refusals"),
-        pairs: Tally::new("thinning, pairs of jobs"),
+        paths: Tally::new("thinning, two jobs read one path"),
+        pairs: Tally::new("thinning, the second job allows as much"),
     };
     let some = |how_many: usize, m: usize, n: usize, all: &mut Comparison, chance: &mut Chance| {
         for _ in 0..count(how_many) {
@@ -322,5 +351,5 @@ fn main() {
         all.refused(&e, Rule::Target(2), output, Scratch::enough(m, n, &mut chance));
     }
     all.domain.tell();
-    end(&[&all.answers, &all.outside, &all.original, &all.scratch, &all.inputs, &all.refusals, &all.pairs])
+    end(&[&all.answers, &all.outside, &all.original, &all.scratch, &all.inputs, &all.refusals, &all.paths, &all.pairs])
 }

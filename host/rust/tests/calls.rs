@@ -22,13 +22,8 @@ fn answer(m: usize, stage: usize, nonzeros: usize, change: u64, left: &[(usize, 
 
 #[test]
 fn target() {
-    let left = [
-        (3, 0x3FB826A439F656F2),
-        (4, 0x3FCCFB2B78C13523),
-        (5, 0x3FC3521CFB2B78C2),
-        (17, 0xBFC3521CFB2B78C2),
-        (19, 0x3FD826A439F656F2),
-    ];
+    let left =
+        [(3, 0x3FB826A439F656F2), (4, 0x3FCCFB2B78C13523), (5, 0x3FC3521CFB2B78C2), (17, 0xBFC3521CFB2B78C2), (19, 0x3FD826A439F656F2)];
     let expected = answer(24, 2, 5, 0x3FDC6EF752A04B3C, &left);
     let (columns, weights) = (columns(24, 5), weights(24));
     assert_eq!(sparsify(&columns, &weights, 7, 3).as_ref(), Ok(&expected.weights));
