@@ -1,4 +1,5 @@
-/* calls.c: makes every call of the library with arguments that all differ, and holds its answers, which all differ too, to what they must be.
+/* calls.c: makes every call of the library with arguments that all differ, and holds its answers, which all differ too, to what they
+   must be.
 
    No order of arguments is written here: each call stands in by_name.h as a macro that takes the variables of the parameters' names in the
    order in which some file declares them (`names` writes it, `test` and `exchange` say of which file). So an exchange of two parameters of
@@ -131,7 +132,7 @@ static void sparsify(void) {
                                            {17, 0xBFC3521CFB2B78C2u}, {19, 0x3FD826A439F656F2u}};
         fill(m, n);
         lend();
-        hold("knob_sparsify, its record", answers(CALL_knob_sparsify, 0, 2, 5, 0x3FDC6EF752A04B3Cu));
+        hold("knob_sparsify, its record", answers(CALL_knob_sparsify, KNOB_ACCEPTED, 2, 5, 0x3FDC6EF752A04B3Cu));
         hold("knob_sparsify", thinned(m, left, 5) && wiped(numbers_length, indices_length));
     }
     { /* No two of these are equal. */
@@ -139,7 +140,7 @@ static void sparsify(void) {
         const size_t numbers_length = 9, indices_length = 10, target = 11;
         const uint64_t seed = 12;
         lend();
-        hold("knob_sparsify, refused", answers(CALL_knob_sparsify, 3, 0, 0, 0) && untouched());
+        hold("knob_sparsify, refused", answers(CALL_knob_sparsify, KNOB_REFUSED_SIZE, 0, 0, 0) && untouched());
     }
 }
 
@@ -158,7 +159,7 @@ static void sparsify_within(void) {
                                            {35, 0x3FC0690690690690u}, {36, 0x3FD0690690690690u}};
         fill(m, n);
         lend();
-        hold("knob_sparsify_within, its record", answers(CALL_knob_sparsify_within, 0, 2, 8, 0x3FD171B8E4FA2B41u));
+        hold("knob_sparsify_within, its record", answers(CALL_knob_sparsify_within, KNOB_ACCEPTED, 2, 8, 0x3FD171B8E4FA2B41u));
         hold("knob_sparsify_within", thinned(m, left, 8) && wiped(numbers_length, indices_length));
     }
     { /* C2 */
@@ -171,7 +172,7 @@ static void sparsify_within(void) {
         memcpy(matrix_room, (double[]){1.0, 1.0, 1.0, -1.0}, 4 * sizeof(double));
         memcpy(weights_room, (double[]){1.0, 3.0}, 2 * sizeof(double));
         lend();
-        hold("C2, its record", answers(CALL_knob_sparsify_within, 0, 0, 2, 0));
+        hold("C2, its record", answers(CALL_knob_sparsify_within, KNOB_ACCEPTED, 0, 2, 0));
         hold("C2", thinned(m, left, 2) && wiped(numbers_length, indices_length));
     }
     { /* No two of these are equal. */
@@ -181,7 +182,7 @@ static void sparsify_within(void) {
         const uint32_t capped = 1;
         const double allowance = 0.5;
         lend();
-        hold("knob_sparsify_within, refused", answers(CALL_knob_sparsify_within, 3, 0, 0, 0) && untouched());
+        hold("knob_sparsify_within, refused", answers(CALL_knob_sparsify_within, KNOB_REFUSED_SIZE, 0, 0, 0) && untouched());
     }
 }
 
@@ -197,14 +198,14 @@ static void discrepancy_coloring(void) {
         static const int8_t signs[] = {1, -1, -1, -1, 1, -1, 1, 1, -1, 0x5A};
         fill(m, n);
         lend();
-        hold("knob_discrepancy_coloring, its number", CALL_knob_discrepancy_coloring == 0);
+        hold("knob_discrepancy_coloring, its number", CALL_knob_discrepancy_coloring == KNOB_ACCEPTED);
         hold("knob_discrepancy_coloring", memcmp(signs_room, signs, sizeof signs) == 0 && wiped(numbers_length, indices_length));
     }
     { /* No two of these are equal. */
         const size_t m = 257, n = 5, matrix_length = 6, output_length = 8, numbers_length = 9, indices_length = 10;
         const uint64_t seed = 12;
         lend();
-        hold("knob_discrepancy_coloring, refused", CALL_knob_discrepancy_coloring == 3 && untouched());
+        hold("knob_discrepancy_coloring, refused", CALL_knob_discrepancy_coloring == KNOB_REFUSED_SIZE && untouched());
     }
 }
 
@@ -218,21 +219,21 @@ static void margins(void) {
     {
         const size_t m = 3, n = 4, matrix_length = 12, before_length = 3, after_length = 3;
         double ours = -7.0, *change = &ours;
-        hold("knob_max_margin_change, its number", CALL_knob_max_margin_change == 0);
+        hold("knob_max_margin_change, its number", CALL_knob_max_margin_change == KNOB_ACCEPTED);
         hold("knob_max_margin_change", ours == 7.625);
     }
     {
         const size_t m = 3, n = 4, matrix_length = 12, before_length = 3, after_length = 3;
         uint64_t ours = 77, *count = &ours;
-        hold("knob_turned_words, its number", CALL_knob_turned_words == 0);
+        hold("knob_turned_words, its number", CALL_knob_turned_words == KNOB_ACCEPTED);
         hold("knob_turned_words", ours == 1);
     }
     { /* No two of these are equal. */
         const size_t m = 257, n = 5, matrix_length = 6, before_length = 7, after_length = 8;
         double moved = -7.0, *change = &moved;
         uint64_t turned = 77, *count = &turned;
-        hold("knob_max_margin_change, refused", CALL_knob_max_margin_change == 3 && bits(moved) == 0);
-        hold("knob_turned_words, refused", CALL_knob_turned_words == 3 && turned == 0);
+        hold("knob_max_margin_change, refused", CALL_knob_max_margin_change == KNOB_REFUSED_SIZE && bits(moved) == 0);
+        hold("knob_turned_words, refused", CALL_knob_turned_words == KNOB_REFUSED_SIZE && turned == 0);
     }
 }
 

@@ -1,8 +1,9 @@
 /* knobthistle.h: the calls of libknobthistle.a, for C and C++.
 
    Link: cc host.c libknobthistle.a. The archive is for x86-64 Linux, or for Arm as the project's script oracle/host-archive makes it.
-   It needs no other library, takes no memory of its own, keeps nothing between calls and never traps: every call below answers for
-   every argument. Each was proved to do what is said here.
+   It wants memcpy and memset of the C library and nothing else, takes no memory of its own and never traps: every call below answers
+   for every argument. Each was proved to do what is said here. It is thread-safe: nothing is kept between calls, and calls may run side
+   by side as long as what one of them writes is lent to no other.
 
    A draw's bits are the same on every machine: nothing is left to the platform's mathematical library. They are draw edition 1. */
 
@@ -43,15 +44,15 @@ double knob_cos_draw(uint64_t word);
 /* ---- Thinning and colouring: what all calls share ----
 
    A matrix of m columns and n rows is one array of m*n doubles, column after column: entry (row i, column j) is matrix[j*n + i].
-   At most 256 columns and 4096 rows. Every array is a pointer and then the number of its elements. No pointer may be null, also
-   where the number is 0, and no array that is written (output, numbers, indices, *change, *count) may overlap another.
+   At most KNOB_MAX_COLUMNS columns and KNOB_MAX_ROWS rows. Every array is a pointer and then the number of its elements. No pointer may be
+   null, also where the number is 0, and no array that is written (output, numbers, indices, answer, *change, *count) may overlap another.
 
    Scratch is lent by the caller and may hold anything before the call:
      numbers: at least m*(n+1) + m*m + 16*m + 8*(n+1) doubles    (KNOB_NUMBERS)
      indices: at least 8*(m+n+1) 32-bit numbers                 (KNOB_INDICES)
    An accepted call leaves all of both zero, whatever their length. Matrix and weights are never changed.
 
-   Each call answers a number: 0 accepted, else the lowest number below that applies and that the call uses.
+   Each call answers a number: 0 accepted, else the lowest number below that applies and that the call uses (enum knob_number has names).
 
      no.  given exactly when                                                      sparsify  within  coloring  change, turned
       1   the allowance is negative or a NaN (-0.0 and infinity are accepted)                  x
@@ -67,10 +68,29 @@ double knob_cos_draw(uint64_t word);
      10   after a pass that sum is 0 or not finite                                   x         x
      11   an entry is not finite or above 2^32 in magnitude                                             x
 
-   A refusal answers its number with 0 in every other field, and changes neither output nor scratch. Number 10 alone is found after
-   work has begun: it changes no output and leaves all scratch zero.
+   A refusal answers its number with 0 in every other field, and changes neither output nor scratch: every double is the one that it was.
+   (That a NaN among them keeps its pattern is tested and not proved: a proof here knows one NaN.) Number 10 alone is found after work has
+   begun: it changes no output and leaves all scratch zero.
 
    Equal arguments give equal bits, on every machine. */
+
+#define KNOB_MAX_COLUMNS 256
+#define KNOB_MAX_ROWS 4096
+
+enum knob_number {
+    KNOB_ACCEPTED = 0,
+    KNOB_REFUSED_ALLOWANCE = 1,
+    KNOB_REFUSED_ZERO = 2,
+    KNOB_REFUSED_SIZE = 3,
+    KNOB_REFUSED_LENGTH = 4,
+    KNOB_REFUSED_EMPTY = 5,
+    KNOB_REFUSED_SCRATCH = 6,
+    KNOB_REFUSED_ENTRY = 7,
+    KNOB_REFUSED_WEIGHT = 8,
+    KNOB_REFUSED_SUM = 9,
+    KNOB_REFUSED_LATER_SUM = 10,
+    KNOB_REFUSED_COLORING_ENTRY = 11
+};
 
 #define KNOB_NUMBERS(m, n) ((size_t)(m) * ((size_t)(n) + 1) + (size_t)(m) * (size_t)(m) + 16 * (size_t)(m) + 8 * ((size_t)(n) + 1))
 #define KNOB_INDICES(m, n) (8 * ((size_t)(m) + (size_t)(n) + 1))
@@ -95,8 +115,10 @@ knob_answer knob_sparsify(const double *matrix, size_t matrix_length, size_t m, 
 #endif
 
 /* Thins weights as far as no margin changes by more than `allowance` from stage 0: the last stage before the first that exceeds it, or
-   the one with a single nonzero. If capped is not 0, `cap` comes first: passes go on until at most cap nonzeros are left, even where
-   the allowance is exceeded; see `change` in the answer. If capped is 0 there is no cap, and the value of cap does not matter. */
+   the one with a single nonzero. If capped is not 0, `cap` comes first: the answer is the first stage that has a single nonzero, or that
+   has at most cap and either measures above the allowance or is followed by one that does. So passes go on until at most cap nonzeros
+   are left, even where the allowance is exceeded (see `change` in the answer), and from there while stages measure within the allowance
+   again. If capped is 0 there is no cap, and the value of cap does not matter. */
 #if !defined(__aarch64__) /* there, see the end */
 knob_answer knob_sparsify_within(const double *matrix, size_t matrix_length, size_t m, size_t n,
                                  const double *weights, size_t weights_length, uint64_t seed,
@@ -105,8 +127,9 @@ knob_answer knob_sparsify_within(const double *matrix, size_t matrix_length, siz
                                  double *numbers, size_t numbers_length, uint32_t *indices, size_t indices_length);
 #endif
 
-/* A signing of the columns by 1 and -1 (m of them, written to output) that tries to keep every row's sum of entry times sign small. Entries may
-   be any doubles up to 2^32 in magnitude. The seed starts the generator. Answers 0, 3, 4, 6 or 11. No columns or no rows are fine. */
+/* A signing of the columns by 1 and -1 (m of them, written to output) that tries to keep every row's sum of entry times sign small.
+   Entries may be any doubles up to 2^32 in magnitude. The seed starts the generator. Answers 0, 3, 4, 6 or 11. No columns or no rows are
+   fine. */
 uint64_t knob_discrepancy_coloring(const double *matrix, size_t matrix_length, size_t m, size_t n, uint64_t seed,
                                    int8_t *output, size_t output_length,
                                    double *numbers, size_t numbers_length, uint32_t *indices, size_t indices_length);

@@ -33,10 +33,16 @@
 //!
 //! # Names
 //!
-//! [`sparsify`], [`sparsify_within`], [`max_margin_change`] and [`discrepancy_coloring`] have the names, arguments and values of the
-//! module `sparsification` of miniboosts; where that panics they give a [`Refusal`]. Their values stay plain weights, not records, so
-//! that code written for that module goes on working behind a `?`. [`thin`] gives the whole answer: weights, stage, nonzeros and change.
-//! Where the panics are wanted too, the module [`sparsification`] has the very signatures, and a host changes its `use` line alone.
+//! [`sparsify`], [`sparsify_within`], [`max_margin_change`] and [`discrepancy_coloring`] have the names, arguments and, given the same
+//! draws, the values of the module `sparsification` of miniboosts; where that panics they give a [`Refusal`]. Their values stay plain
+//! weights, not records, so that code written for that module goes on working behind a `?`. [`thin`] gives the whole answer: weights,
+//! stage, nonzeros and change. Where the panics are wanted too, the module [`sparsification`] has the very signatures, and a host changes
+//! its `use` line alone.
+//!
+//! The draws are not the same: that module takes the platform's logarithm and cosine, this library one rule for every machine. Beside
+//! that module as it ships, of thinnings to 4 weights with entries 1 and -1, 34 of 20,000 with 32 columns and 64 rows came out otherwise
+//! and 10 of 2,000 with 120 columns and 1,000 rows; with entries anywhere in [-1, 1) none of as many; of colourings of 120 columns and
+//! 1,000 rows 371 and 376 of 2,000. [`max_margin_change`] draws nothing and is the same always.
 //!
 //! # Building
 //!

@@ -10,7 +10,9 @@ pub enum Rule {
     /// At the first stage with at most so many nonzeros.
     Target(usize),
     /// At the last stage before the first whose change is above the allowance, or at the one with a single nonzero. A cap comes first:
-    /// passes go on until at most so many nonzeros are left, even where the allowance is exceeded.
+    /// passes go on until at most so many nonzeros are left, even where the allowance is exceeded, and from there while stages measure
+    /// within the allowance again. So it stops at the first stage with a single nonzero, or with at most so many that measures above the
+    /// allowance itself or is followed by one that does.
     Within { allowance: f64, cap: Option<usize> },
 }
 
@@ -97,8 +99,8 @@ pub fn sparsify(columns: &[Vec<f64>], weights: &[f64], target: usize, seed: u64)
     thin(columns, weights, Job { seed, rule: Rule::Target(target) }).map(|thinned| thinned.weights)
 }
 
-/// Thins weights as far as no margin changes by more than `max_change`; with `max_nonzeros` as far as that at least, even where the
-/// change is exceeded. Refusals 1 to 5 and 7 to 9.
+/// Thins weights as far as no margin changes by more than `max_change`; with `max_nonzeros` to at most so many, even where the change is
+/// exceeded: see [`Rule::Within`]. Refusals 1 to 5 and 7 to 9.
 ///
 /// ```
 /// let columns = vec![vec![1.0, 1.0], vec![1.0, -1.0]];
