@@ -3,8 +3,8 @@
 //! A host that has `use miniboosts::optimization::sparsification::..` changes that line to `use knobthistle::sparsification::..` and no
 //! other. A host that would rather be told takes the functions of the crate's root. What the original takes and this library refuses is
 //! more than 256 columns or 4096 rows, and in a colouring entries above 2^32 in magnitude. The values are the original's where the draws
-//! are: its logarithm and cosine are the platform's, ours one rule for every machine, so that a few thinnings in a thousand and about one
-//! in five large colourings come out otherwise than by the original as it ships (the crate's first page has the counts).
+//! are: its logarithm and cosine are the platform's, ours one rule for every machine, so that up to a few thinnings in a thousand and
+//! about one in five large colourings come out otherwise than by the original as it ships (the crate's first page has the counts).
 
 use crate::Refusal;
 
