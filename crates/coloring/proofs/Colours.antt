@@ -17,8 +17,8 @@ use Rattle.seq.specs.Keep.{keep, count}
 use Rattle.seq.proofs.Filling.{length-tab, getD-tab}
 use Rattle.seq.proofs.Keeping.{length-keep}
 use Rattle.entries.specs.Rows.{times}
-use Rattle.order.specs.Order.{isSet}
-use Rattle.direction.specs.Constants.{one, minusOne}
+use Rattle.seq.specs.Marks.{isSet}
+use Rattle.ieee.specs.Constants.{one, minusOne}
 use Rattle.linear.specs.Vectors.{maxAbsOf}
 use Rattle.search.specs.Search.{Search, improves, flipped, sweepTo, sweptOf, searchTo, searched}
 use Rattle.places.specs.Places.{roundedAt}

@@ -21,11 +21,11 @@ use Rattle.seq.proofs.Filling.{length-tab, getD-tab}
 use Rattle.ieee.specs.Magnitude.{absOf, signumOf}
 use lib.Ieee.Scale.{finite}
 use Rattle.entries.specs.Rows.{times}
-use Rattle.order.specs.Order.{isSet}
+use Rattle.seq.specs.Marks.{isSet}
 use Rattle.direction.specs.Direction.{drawn, directed, tooShort, uphill, turned}
-use Rattle.direction.specs.Constants.{one, minusOne, freezeLimit}
+use Rattle.ieee.specs.Constants.{one, minusOne}
+use Rattle.freeze.specs.Freeze.{freezeLimit, Walk, freezes, frozenAt, freezeTo}
 use Rattle.direction.specs.Step.{reachTo, moved, movedAt}
-use Rattle.freeze.specs.Freeze.{Walk, freezes, frozenAt, freezeTo}
 use Rattle.walk.proofs.Ending.{step-sound}
 use Rattle.places.proofs.Places.{off, getD-out, count-all}
 use Rattle.begin.specs.Begin.{begun}

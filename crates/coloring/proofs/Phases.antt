@@ -18,7 +18,7 @@ use Rattle.seq.specs.Until.{run}
 use Rattle.seq.proofs.Filling.{length-tab, getD-tab}
 use Rattle.seq.proofs.Keeping.{length-keep, keep-short}
 use Rattle.seq.proofs.Loops.{enough}
-use Rattle.order.specs.Order.{isSet}
+use Rattle.seq.specs.Marks.{isSet}
 use Rattle.freeze.specs.Freeze.{Walk}
 use Rattle.begin.specs.Begin.{begun}
 use Rattle.walk.specs.Walk.{phaseOf, freeOnes}

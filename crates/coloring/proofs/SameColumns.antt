@@ -11,13 +11,13 @@ use Rattle.seq.specs.Sums.{plusZero, at}
 use Rattle.seq.specs.Keep.{keep}
 use Rattle.seq.proofs.Filling.{length-tab, tab-cong}
 use Rattle.seq.proofs.Keeping.{keep-good}
-use Rattle.linear.specs.Vectors.{maxAbsTo, maxAbsOf}
+use Rattle.linear.specs.Vectors.{maxAbsOf}
+use Rattle.ieee.specs.Magnitude.{maxAbsTo}
 use Rattle.entries.specs.Rows.{times}
-use Rattle.order.specs.Order.{isSet}
+use Rattle.seq.specs.Marks.{isSet}
 use Rattle.begin.specs.Begin.{begun}
-use Rattle.direction.specs.Constants.{improvement}
+use Rattle.search.specs.Search.{improvement, Search, flippedAt, improves, flipped, sweepTo, sweptOf, searchTo, searched}
 use Rattle.walk.proofs.SameEntries.{run-cong, phase-same, begun-same, times-same}
-use Rattle.search.specs.Search.{Search, flippedAt, improves, flipped, sweepTo, sweptOf, searchTo, searched}
 use Rattle.places.specs.Places.{chosen}
 use Rattle.phasing.specs.Phase.{Between, phased}
 use Rattle.coloring.specs.Coloring.{settled, walked, coloringOf}

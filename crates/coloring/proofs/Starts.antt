@@ -14,8 +14,8 @@ use Rattle.seq.specs.Keep.{keep}
 use Rattle.ieee.specs.Flat.{Alike, isZero}
 use Rattle.ieee.proofs.Alikes.{alike-refl, le-alike, pick-alike}
 use Rattle.ieee.proofs.Equality.{alike-nonzero}
-use Rattle.order.specs.Order.{isSet}
-use Rattle.direction.specs.Constants.{one, minusOne}
+use Rattle.seq.specs.Marks.{isSet}
+use Rattle.ieee.specs.Constants.{one, minusOne}
 use Rattle.freeze.specs.Freeze.{Walk}
 use Rattle.begin.specs.Begin.{begun}
 use Rattle.walk.specs.Walk.{phaseOf, freeOnes}

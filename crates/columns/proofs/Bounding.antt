@@ -8,21 +8,12 @@ use native.Mathlib.Omega.{arith}
 use lib.Dec.{T}
 use lib.Ieee.Bits.{is-true}
 use lib.Ieee.{Float, nan, inf, fin, binary64, ofBits, lt, le, fits}
-use Rattle.ieee.specs.Magnitude.{absOf, largerOf, largestTo}
+use Rattle.ieee.specs.Magnitude.{absOf, largerOf, largestTo, maxAbsTo}
 use Rattle.ieee.specs.Units.{isNum}
-use Rattle.ieee.proofs.Ranks.{Number, lt-not-le, le-transitive}
+use Rattle.ieee.proofs.Ranks.{Number, lt-not-le, le-transitive, not-under, none-below, nan-or-number}
 use Rattle.ieee.proofs.Maximum.{le-self, larger-nan, larger-is, largest-number, largest-ge}
 use Rattle.ieee.proofs.Sums.{abs-fits}
 use Rattle.seq.specs.Sums.{plusZero}
-use Rattle.linear.specs.Vectors.{maxAbsTo}
-use Rattle.order.proofs.NotAbove.{not-under, decide}
-
--- nothing is below a NaN
-none-below : (x : Float) → lt x nan ≡ false
-unfolding lt
-none-below nan = refl
-none-below (inf s) = refl
-none-below (fin s m e) = refl
 
 yes : (t : Bool) → not t ≡ false → T t
 yes true e = tt
@@ -46,7 +37,7 @@ module _ (v : ℕ → Float) (held : (j : ℕ) → T (fits binary64 (v j))) (b :
 
   starts : (n : ℕ) → T (le (maxAbsTo v 0) (maxAbsTo v n))
   starts zero = le-self (number 0)
-  starts (suc n) = le-transitive (number 0) (number n) (number (suc n)) (starts n) (grows (decide (absOf (v n))))
+  starts (suc n) = le-transitive (number 0) (number n) (number (suc n)) (starts n) (grows (nan-or-number (absOf (v n))))
     where
       grows : (absOf (v n) ≡ nan) ⊎ T (isNum (absOf (v n))) → T (le (maxAbsTo v n) (maxAbsTo v (suc n)))
       grows (inl e) = unfold maxAbsTo in subst (λ (y : Float). T (le (maxAbsTo v n) (largerOf (maxAbsTo v n) y))) (sym e) (subst (λ (y : Float). T (le (maxAbsTo v n) y)) (sym (larger-nan (maxAbsTo v n))) (le-self (number n)))
@@ -60,7 +51,7 @@ module _ (v : ℕ → Float) (held : (j : ℕ) → T (fits binary64 (v j))) (b :
 
   -- an entry at or above the bound settles it
   pub not-below : (k n : ℕ) → k < n → le b (absOf (v k)) ≡ true → lt (maxAbsTo v n) b ≡ false
-  not-below k n l e = go (decide b) (decide (absOf (v k)))
+  not-below k n l e = go (nan-or-number b) (nan-or-number (absOf (v k)))
     where
       go : (b ≡ nan) ⊎ T (isNum b) → (absOf (v k) ≡ nan) ⊎ T (isNum (absOf (v k))) → lt (maxAbsTo v n) b ≡ false
       go (inl h) w = ap (λ (y : Float). lt (maxAbsTo v n) y) h ∙ none-below (maxAbsTo v n)
@@ -69,7 +60,7 @@ module _ (v : ℕ → Float) (held : (j : ℕ) → T (fits binary64 (v j))) (b :
 
   -- and so does 0.0
   pub never-below : (n : ℕ) → lt plusZero b ≡ false → lt (maxAbsTo v n) b ≡ false
-  never-below n e = go (decide b)
+  never-below n e = go (nan-or-number b)
     where
       go : (b ≡ nan) ⊎ T (isNum b) → lt (maxAbsTo v n) b ≡ false
       go (inl h) = ap (λ (y : Float). lt (maxAbsTo v n) y) h ∙ none-below (maxAbsTo v n)
@@ -79,7 +70,7 @@ module _ (v : ℕ → Float) (held : (j : ℕ) → T (fits binary64 (v j))) (b :
 
   -- one entry more
   pub still-below : (k : ℕ) → lt (maxAbsTo v k) b ≡ true → le b (absOf (v k)) ≡ false → lt (maxAbsTo v (k + 1)) b ≡ true
-  still-below k e f = subst (λ (j : ℕ). lt (maxAbsTo v j) b ≡ true) (sym (add-one k)) (go (decide b) (decide (absOf (v k))))
+  still-below k e f = subst (λ (j : ℕ). lt (maxAbsTo v j) b ≡ true) (sym (add-one k)) (go (nan-or-number b) (nan-or-number (absOf (v k))))
     where
       go : (b ≡ nan) ⊎ T (isNum b) → (absOf (v k) ≡ nan) ⊎ T (isNum (absOf (v k))) → lt (maxAbsTo v (suc k)) b ≡ true
       go (inl h) w = absurd (false≢true (sym (none-below (maxAbsTo v k)) ∙ ap (λ (y : Float). lt (maxAbsTo v k) y) (sym h) ∙ e))

@@ -5,7 +5,7 @@ ghost use Prim.Native.Nat.{_≤_, _+_};
 ghost use lib.ListN.{length};
 ghost use lib.Ieee.{lt};
 ghost use Rattle.seq.specs.Lists.{tabulate};
-ghost use Rattle.linear.specs.Vectors.{maxAbsTo};
+ghost use Rattle.ieee.specs.Magnitude.{maxAbsTo};
 ghost use Rattle.columns.specs.Columns.{scaledAt};
 ghost use Rattle.columns.specs.Kernels.{plusAt, plusTwo, squaredAt, lessAt};
 

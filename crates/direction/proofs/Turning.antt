@@ -17,25 +17,9 @@ use Rattle.seq.proofs.Parts.{getD-part, length-part}
 use Rattle.ieee.specs.Magnitude.{signumOf, smallerOf}
 use Rattle.linear.specs.Vectors.{normOf}
 use Rattle.linear.specs.Basis.{projected}
-use Rattle.direction.specs.Constants.{one, minusOne, degenerate}
-use Rattle.direction.specs.Direction.{zeroed, directed, tooShort}
+use Rattle.ieee.specs.Constants.{one, minusOne}
+use Rattle.direction.specs.Direction.{degenerate, zeroed, directed, tooShort}
 use Rattle.direction.specs.Step.{reachTo, along, alongAt}
-
-module _ {A : Type 0} where
-  -- a turn that stores nothing, where the place is right already
-  pub skip : {f : ℕ → A} {w v : List A} {i : ℕ} (z : A) → Filled f w i v → i < length w → f i ≡ getD w i z → Filled f w (i + 1) v
-  unfolding tabulate
-  skip {f} {w} {v} {i} z e h k =
-      record {
-        upto = omega arith;
-        long = e .long;
-        is = e .is ∙ rw (add-one i, drop-cons w i z h, ← k) (sym (append-snoc (tabulate f i) (f i) (drop (suc i) w)));
-      }
-
--- -1.0 as the code has it
-pub minus-one : neg one ≡ minusOne
-unfolding neg ofBits
-minus-one = refl
 
 -- the turns of the loop that looks for the largest step
 module _ (x g : List Float) (free : List ℕ) (k : ℕ) (r : Float) (so-far : r ≡ reachTo x g free k) where

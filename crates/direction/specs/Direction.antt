@@ -3,15 +3,14 @@ use Prim.Native.Nat.{ℕ, zero, suc}
 use mathlib.Core.Bool.{Bool}
 use mathlib.Core.List.{List}
 use lib.ListN.{length}
-use lib.Ieee.{Float, binary64, mul, neg, le, lt}
+use lib.Ieee.{Float, binary64, ofBits, mul, neg, le, lt}
 use Rattle.seq.specs.Choice.{pick}
 use Rattle.seq.specs.Lists.{tabulate}
 use Rattle.seq.specs.Sums.{plusZero, at}
 use Rattle.draw.specs.Gaussian.{gaussianOf, afterGaussian}
 use Rattle.linear.specs.Vectors.{dotOf, normOf}
 use Rattle.linear.specs.Basis.{projected}
-use Rattle.direction.specs.Constants.{degenerate}
-use Rattle.order.specs.Order.{isSet}
+use Rattle.seq.specs.Marks.{isSet}
 
 -- the generator's state after k draws
 unfoldable pub afterDraws : ℕ → ℕ → ℕ
@@ -36,6 +35,10 @@ zeroed free g = tabulate (zeroedAt free g) (length g)
 -- the draws d projected, and zeroed at the frozen places
 unfoldable pub directed : Float → List (List Float) → List ℕ → List Float → List Float
 directed z basis free d = zeroed free (projected z basis d)
+
+-- 1e-9: a direction shorter than this part of the drawn one is none
+abbrev pub degenerate : Float
+degenerate = ofBits binary64 0x3E11_2E0B_E826_D695
 
 -- g is too short beside the draws d
 unfoldable pub tooShort : Float → List Float → List Float → Bool

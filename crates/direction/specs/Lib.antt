@@ -1,4 +1,3 @@
--- The constants of the colouring, a direction of the walk, and the step along it.
-pub mod Constants
+-- A direction of the walk, and the step along it.
 pub mod Direction
 pub mod Step

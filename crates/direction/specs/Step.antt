@@ -8,8 +8,8 @@ use Rattle.seq.specs.Choice.{pick}
 use Rattle.seq.specs.Lists.{tabulate}
 use Rattle.seq.specs.Sums.{plusZero, at}
 use Rattle.ieee.specs.Magnitude.{signumOf, smallerOf, clampOf}
-use Rattle.direction.specs.Constants.{one, minusOne}
-use Rattle.order.specs.Order.{isSet}
+use Rattle.ieee.specs.Constants.{one, minusOne}
+use Rattle.seq.specs.Marks.{isSet}
 
 -- how far coordinate p can go before it is 1 or -1
 abbrev pub reachAt : List Float → List Float → ℕ → Float

@@ -16,7 +16,7 @@ use Rattle.ieee.proofs.Products.{times-one}
 use Rattle.ieee.proofs.Division.{unit-is}
 use Rattle.entries.specs.Entries.{entryOf, Chosen}
 use Rattle.entries.proofs.Reading.{entry-own, entry-under}
-use Rattle.direction.specs.Constants.{one}
+use Rattle.ieee.specs.Constants.{one}
 use Rattle.coloring.specs.Coloring.{Colored, coloringOf}
 use Rattle.limits.specs.Limits.{bounded}
 use Rattle.limits.specs.Matrix.{columnsOf}

@@ -9,7 +9,7 @@ use lib.ListN.{length, getD, set, length-append, length-set}
 use lib.Ieee.{Float, binary64, mul, eq}
 use Rattle.seq.specs.Choice.{pick}
 use Rattle.seq.specs.Sums.{plusZero, at}
-use Rattle.direction.specs.Constants.{two}
+use Rattle.ieee.specs.Constants.{two}
 use Rattle.doubling.specs.Doubling.{thoseTo, halvedTo}
 
 -- those that pass

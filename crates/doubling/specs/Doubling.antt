@@ -8,7 +8,7 @@ use lib.Ieee.{Float, binary64, div, mul, eq, lt}
 use Rattle.seq.specs.Choice.{pick}
 use Rattle.seq.specs.Sums.{plusZero, at}
 use Rattle.seq.specs.Keep.{count}
-use Rattle.direction.specs.Constants.{one, minusOne, two}
+use Rattle.ieee.specs.Constants.{one, minusOne, two}
 use Rattle.weights.specs.Weights.{isOn}
 
 -- of the first k of some indices those that pass, in order

@@ -9,8 +9,9 @@ use lib.Ieee.{Float, lt}
 use lib.Ieee.Scale.{finite}
 use borrow.Author.Tests.{eq-eqb, ne-eqb}
 use Rattle.seq.specs.Sums.{plusZero, at}
-use Rattle.limits.specs.Limits.{tooLarge, scratchShort, bounded, allTo}
-use Rattle.direction.specs.Constants.{one}
+use Rattle.limits.specs.Limits.{tooLarge, scratchShort, bounded}
+use Rattle.seq.specs.Keep.{allTo}
+use Rattle.ieee.specs.Constants.{one}
 use Rattle.weights.specs.Weights.{l1Of}
 use Rattle.limits.proofs.Sizes.{small}
 use Rattle.rules.specs.Rules.{ruleFault}

@@ -8,8 +8,9 @@ use lib.Ieee.{Float}
 use lib.Ieee.Scale.{finite}
 use Rattle.seq.specs.Choice.{pick, orElse}
 use Rattle.seq.specs.Sums.{plusZero, at}
-use Rattle.limits.specs.Limits.{tooLarge, scratchShort, bounded, allTo}
-use Rattle.direction.specs.Constants.{one}
+use Rattle.limits.specs.Limits.{tooLarge, scratchShort, bounded}
+use Rattle.seq.specs.Keep.{allTo}
+use Rattle.ieee.specs.Constants.{one}
 use Rattle.weights.specs.Weights.{l1Of, sound}
 use Rattle.rules.specs.Rules.{ruleFault}
 use Rattle.rules.specs.declared.Rule.{Rule}

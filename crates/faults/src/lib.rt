@@ -10,7 +10,7 @@ ghost use mathlib.Core.Path.{_≡_};
 ghost use lib.ListN.{length};
 ghost use lib.Ieee.Scale.{finite};
 ghost use Rattle.seq.specs.Sums.{at};
-ghost use Rattle.limits.specs.Limits.{allTo};
+ghost use Rattle.seq.specs.Keep.{allTo};
 ghost use Rattle.faults.specs.Faults.{sizeFault, valueFault, jobFault};
 
 // 3 to 6, of the sizes.

@@ -11,7 +11,7 @@ use Rattle.fields.specs.Digits.{isDigit, isLetter, numberAt}
 use Rattle.fields.specs.Fields.{isBits}
 use Rattle.fields.specs.Texts.{bitsText}
 use Rattle.fields.proofs.Values.{Says, hex-says, says-hex, says-positive}
-use Rattle.fields.proofs.Every.{every-at, every-holds}
+use Rattle.seq.proofs.Every.{every-at, every-holds}
 use Rattle.fields.proofs.Turns.{number-small}
 use Rattle.fields.proofs.Numerals.{inside, digits-of-number, number-of-digits, digits-say}
 

@@ -14,7 +14,8 @@ use Rattle.fields.specs.Bytes.{byteAt}
 use Rattle.fields.specs.Digits.{isDigit, digitValue, numberAt, digitsOf}
 use Rattle.fields.specs.Fields.{digitsFrom, widthAt, isCount, countAt}
 use Rattle.fields.specs.Texts.{widthOf, countText}
-use Rattle.fields.proofs.Values.{both, Says, digit-range, digit-value, digit-says, says-digit, says-positive}
+use Rattle.fields.proofs.Values.{Says, digit-range, digit-value, digit-says, says-digit, says-positive}
+use Rattle.seq.proofs.Choosing.{both}
 use Rattle.fields.proofs.Widths.{Tight, digits-most, width-least, width-tight, width-is, width-ten}
 use Rattle.fields.proofs.Turns.{more-from, none-from}
 use Rattle.fields.proofs.Numerals.{inside, number-below, digits-of-number, number-of-digits, digits-say}

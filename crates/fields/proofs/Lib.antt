@@ -3,7 +3,6 @@ pub mod Values
 pub mod Widths
 pub mod Turns
 pub mod Written
-pub mod Every
 pub mod Numerals
 pub mod BitsBack
 pub mod CountsBack

@@ -10,7 +10,7 @@ use Rattle.seq.specs.Choice.{pick}
 use Rattle.fields.specs.Bytes.{byteAt, spelled}
 use Rattle.fields.specs.Digits.{isDigit, isLetter, numberAt}
 use Rattle.fields.specs.Fields.{isBits, bitsAt, digitsFrom, widthAt, countAt}
-use Rattle.fields.proofs.Every.{every-same}
+use Rattle.seq.proofs.Every.{every-same}
 use Rattle.fields.proofs.Widths.{width-at-most}
 
 pub byte-longer : (t more : List ℕ) (i : ℕ) → i < length t → byteAt (t ++ more) i ≡ byteAt t i

@@ -7,12 +7,8 @@ use native.Mathlib.Decide.{decLt}
 use native.Mathlib.Omega.{arith}
 use lib.Dec.{leb}
 use Rattle.seq.specs.Choice.{pick}
+use Rattle.seq.proofs.Choosing.{both}
 use Rattle.fields.specs.Digits.{isDigit, isLetter, digitValue, digitFor}
-
--- two tests hold where both together do
-pub both : (s t : Bool) → (s && t) ≡ true → (s ≡ true) × (t ≡ true)
-both true t h = (refl, h)
-both false t h = (h, cc)
 
 -- a byte in the range of the digits
 pub digit-range : (b : ℕ) → isDigit b ≡ true → (48 ≤ b) × (b ≤ 57)

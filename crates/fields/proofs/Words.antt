@@ -11,7 +11,7 @@ use lib.Seq.{ext-getD}
 use Rattle.seq.specs.Lists.{part}
 use Rattle.seq.proofs.Parts.{length-part, getD-part}
 use Rattle.fields.specs.Bytes.{byteAt, spelled}
-use Rattle.fields.proofs.Every.{every-at, every-holds}
+use Rattle.seq.proofs.Every.{every-at, every-holds}
 use Rattle.fields.proofs.Numerals.{inside}
 
 -- each byte is the word's

@@ -4,7 +4,7 @@ use mathlib.Core.Bool.{Bool}
 use mathlib.Core.List.{List}
 use lib.Dec.{eqb}
 use lib.ListN.{length, getD}
-use Rattle.limits.specs.Limits.{allTo}
+use Rattle.seq.specs.Keep.{allTo}
 
 -- the tab between two fields
 abbrev pub tab : ℕ

@@ -4,7 +4,7 @@ use mathlib.Core.Bool.{Bool, not, _&&_, _||_}
 use mathlib.Core.List.{List}
 use lib.Dec.{eqb, leb, ltb}
 use Rattle.seq.specs.Choice.{pick}
-use Rattle.limits.specs.Limits.{allTo}
+use Rattle.seq.specs.Keep.{allTo}
 use Rattle.fields.specs.Bytes.{byteAt}
 use Rattle.fields.specs.Digits.{isDigit, isLetter, numberAt}
 use Rattle.fields.specs.declared.Field.{Field}

@@ -8,10 +8,10 @@ use native.Mathlib.Omega.{arith}
 use lib.Dec.{eqb}
 use lib.ListN.{length, take, drop, length-append, take-append-drop}
 use lib.Seq.{length-take-le}
-use Rattle.limits.specs.Limits.{allTo}
+use Rattle.seq.specs.Keep.{allTo}
 use Rattle.fields.specs.Bytes.{newline, byteAt, spelled}
 use Rattle.fields.specs.Fields.{isBits}
-use Rattle.fields.proofs.Every.{every-same}
+use Rattle.seq.proofs.Every.{every-same}
 use Rattle.fields.proofs.Longer.{byte-longer, spelled-longer, bits-longer}
 use Rattle.head.specs.FirstLine.{headOf}
 use Rattle.head.proofs.Longer.{head-longer}

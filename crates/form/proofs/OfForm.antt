@@ -12,14 +12,14 @@ use lib.Dec.{eqb, leb, ltb}
 use lib.ListN.{length, length-append}
 use lib.Ieee.{binary64, ofBits}
 use Rattle.seq.proofs.Filling.{tab-cong}
-use Rattle.limits.specs.Limits.{allTo}
+use Rattle.seq.specs.Keep.{allTo}
 use Rattle.fields.specs.Bytes.{tab, newline, byteAt, spelled}
 use Rattle.fields.specs.Digits.{isDigit, numberAt}
 use Rattle.fields.specs.Fields.{isBits, bitsAt, countAt}
 use Rattle.fields.specs.Texts.{bitsText, countText}
 use Rattle.fields.specs.declared.Field.{Field}
-use Rattle.fields.proofs.Values.{both}
-use Rattle.fields.proofs.Every.{every-holds}
+use Rattle.seq.proofs.Choosing.{both}
+use Rattle.seq.proofs.Every.{every-holds}
 use Rattle.fields.proofs.Widths.{length-bits}
 use Rattle.fields.proofs.Words.{spelled-at}
 use Rattle.rules.specs.declared.Cap.{Cap}

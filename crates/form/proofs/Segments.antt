@@ -10,14 +10,14 @@ use lib.ListN.{length, getD, take, drop, length-append}
 use lib.Seq.{take-all, take-take, take-append-seam, drop-append-seam, drop-cons}
 use Rattle.seq.specs.Lists.{part}
 use Rattle.seq.proofs.Parts.{part-add, getD-part}
-use Rattle.limits.specs.Limits.{allTo}
+use Rattle.seq.specs.Keep.{allTo}
 use Rattle.fields.specs.Bytes.{byteAt, spelled}
 use Rattle.fields.specs.Digits.{isDigit, numberAt}
 use Rattle.fields.specs.Fields.{isBits, bitsAt, countAt, widthAt}
 use Rattle.fields.specs.Texts.{bitsText, countText, widthOf}
 use Rattle.fields.specs.declared.Field.{Field}
 use Rattle.fields.proofs.Values.{Says, says-digit}
-use Rattle.fields.proofs.Every.{every-at}
+use Rattle.seq.proofs.Every.{every-at}
 use Rattle.fields.proofs.Widths.{length-bits, length-count, width-least}
 use Rattle.fields.proofs.Numerals.{inside, digits-say}
 use Rattle.fields.proofs.BitsBack.{bits-text, text-bits}

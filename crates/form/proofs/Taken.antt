@@ -7,13 +7,13 @@ use mathlib.Core.List.{List, [], _∷_, _++_, append-assoc}
 use native.Mathlib.Omega.{arith}
 use lib.Dec.{eqb}
 use Rattle.seq.specs.Choice.{pick}
-use Rattle.limits.specs.Limits.{allTo}
+use Rattle.seq.specs.Keep.{allTo}
 use Rattle.fields.specs.Bytes.{tab, newline, byteAt, spelled}
 use Rattle.fields.specs.Digits.{numberAt}
 use Rattle.fields.specs.Fields.{isBits, bitsAt, countAt}
 use Rattle.fields.specs.Texts.{bitsText, countText}
-use Rattle.fields.proofs.Values.{both}
-use Rattle.fields.proofs.Every.{every-at}
+use Rattle.seq.proofs.Choosing.{both}
+use Rattle.seq.proofs.Every.{every-at}
 use Rattle.fields.proofs.BitsBack.{bits-below}
 use Rattle.rules.specs.declared.Cap.the-variants.{Absent, AtMost}
 use Rattle.head.specs.Words.{thinWord, targetWord, withinWord, dash}

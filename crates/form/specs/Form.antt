@@ -5,7 +5,7 @@ use mathlib.Core.List.{List, [], _∷_}
 use lib.Dec.{eqb, ltb}
 use lib.ListN.{length}
 use Rattle.seq.specs.Choice.{pick}
-use Rattle.limits.specs.Limits.{allTo}
+use Rattle.seq.specs.Keep.{allTo}
 use Rattle.fields.specs.Bytes.{tab, newline, byteAt, spelled}
 use Rattle.fields.specs.Fields.{isBits}
 use Rattle.head.specs.FirstLine.{headOf}

@@ -8,7 +8,7 @@ use head::head_of;
 ghost use mathlib.Core.Path.{_≡_};
 ghost use lib.ListN.{length};
 ghost use Prim.Native.Nat.{_+_, _≤_, _*_};
-ghost use Rattle.limits.specs.Limits.{allTo};
+ghost use Rattle.seq.specs.Keep.{allTo};
 ghost use Rattle.seq.specs.Lists.{tabulate};
 ghost use Rattle.form.specs.Reading.{doubleAt, weightPlace, entryPlace};
 ghost use Rattle.form.specs.Form.{isEntry, isColumn, columnsFrom, wrongLine};

@@ -21,8 +21,7 @@ use Rattle.linear.proofs.Bases.{inserted-most, length-vectors}
 use Rattle.entries.specs.Entries.{Chosen}
 use Rattle.entries.specs.Rows.{rowOf}
 use Rattle.order.specs.Order.{worstTo}
-use Rattle.direction.specs.Constants.{freezeLimit}
-use Rattle.freeze.specs.Freeze.{Walk, axis, freezes, blocking, frozenAt, freezeTo}
+use Rattle.freeze.specs.Freeze.{freezeLimit, Walk, axis, freezes, blocking, frozenAt, freezeTo}
 use Rattle.freeze.specs.Held.{axIn, basisIn, held, Roomy, worstIn, roomFor, Blocked}
 use Rattle.freeze.proofs.Scratch.{rest-is, back-rest, back-front, walk-path}
 

@@ -4,15 +4,16 @@ use mathlib.Core.Bool.{Bool, _&&_}
 use mathlib.Core.List.{List}
 use lib.Dec.{ltb}
 use lib.ListN.{length, set}
-use lib.Ieee.{Float, le}
+use lib.Ieee.{Float, binary64, ofBits, sub, le}
 use Rattle.seq.specs.Choice.{pick}
 use Rattle.seq.specs.Lists.{repeated}
 use Rattle.seq.specs.Sums.{plusZero, at}
 use Rattle.ieee.specs.Magnitude.{absOf, signumOf}
 use Rattle.linear.specs.Basis.{inserted}
-use Rattle.direction.specs.Constants.{one, freezeLimit}
+use Rattle.ieee.specs.Constants.{one}
 use Rattle.entries.specs.Rows.{rowOf}
-use Rattle.order.specs.Order.{isSet, worstTo}
+use Rattle.order.specs.Order.{worstTo}
+use Rattle.seq.specs.Marks.{isSet}
 
 -- The coordinates of the phase's l columns, which of them are free, how many froze in this phase, A x,
 -- which rows are blocked, the basis that directions are projected out of, and the generator.
@@ -28,6 +29,10 @@ pub record Walk : Type 0 where
 -- the vector with 1.0 at p
 abbrev pub axis : ℕ → ℕ → List Float
 axis l p = set (repeated plusZero l) p one
+
+-- 1 - 1e-9, the difference rounded: a coordinate of this magnitude freezes
+abbrev pub freezeLimit : Float
+freezeLimit = sub binary64 one (ofBits binary64 0x3E11_2E0B_E826_D695)
 
 -- a free coordinate that is near enough to 1 or -1
 abbrev pub freezes : Walk → ℕ → Bool

@@ -20,7 +20,7 @@ use Rattle.ieee.proofs.Division.{unit, unit-is, unit-mag, unit-number}
 use Rattle.ieee.proofs.Products.{mul-finite}
 use Rattle.limits.specs.Limits.{bounded}
 use Rattle.limits.proofs.Bounded.{bounded-at, finite-within}
-use Rattle.direction.specs.Constants.{one}
+use Rattle.ieee.specs.Constants.{one}
 use Rattle.entries.specs.Entries.{entryOf}
 use Rattle.entries.proofs.Reading.{entry-own, entry-under}
 

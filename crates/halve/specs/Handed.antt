@@ -6,7 +6,7 @@ use mathlib.Core.List.{List}
 use lib.ListN.{length}
 use lib.Ieee.{Float}
 use Rattle.limits.specs.Limits.{bounded}
-use Rattle.direction.specs.Constants.{one}
+use Rattle.ieee.specs.Constants.{one}
 use Rattle.coloring.specs.Coloring.{Colored}
 use Rattle.seq.specs.Indices.{Below}
 use Rattle.doubling.specs.Doubling.{halvedTo, sigmaOf}

@@ -10,10 +10,9 @@ use lib.Ieee.{Float}
 use Rattle.seq.specs.Choice.{pick}
 use Rattle.seq.specs.Sums.{plusZero, at}
 use Rattle.seq.specs.Indices.{Below}
-use Rattle.seq.proofs.Keeping.{keep-good}
+use Rattle.seq.proofs.Keeping.{keep-good, count-short}
 use Rattle.ieee.specs.Magnitude.{absOf}
 use Rattle.weights.specs.Weights.{isOn, nonzeros, l1Of, sound, normalized}
-use Rattle.weights.proofs.Counting.{count-short}
 use Rattle.ranking.specs.Ranking.{support, ranked, keptCount, restOf}
 use Rattle.halve.specs.Halve.{halvedOnce}
 use Rattle.halve.specs.Handed.{halvesOf}

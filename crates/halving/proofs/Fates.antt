@@ -12,7 +12,7 @@ use lib.Seq.{getD-set-same, getD-set-other}
 use lib.Ieee.{Float, nan, binary64, mul, eq}
 use Rattle.seq.specs.Choice.{pick}
 use Rattle.seq.specs.Sums.{plusZero, at}
-use Rattle.direction.specs.Constants.{two}
+use Rattle.ieee.specs.Constants.{two}
 use Rattle.coloring.specs.Coloring.{Colored, coloringOf}
 use Rattle.weights.specs.Weights.{isOn}
 use Rattle.halve.specs.Halve.{Halved, halvedOnce, scaledColumns}

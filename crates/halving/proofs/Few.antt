@@ -25,7 +25,7 @@ use Rattle.ieee.proofs.Norms.{lone-sum}
 use Rattle.ieee.proofs.Division.{over-itself}
 use Rattle.ieee.proofs.Normalised.{Normal}
 use Rattle.coloring.proofs.Colours.{Coloured, colours}
-use Rattle.direction.specs.Constants.{two}
+use Rattle.ieee.specs.Constants.{two}
 use Rattle.weights.specs.Weights.{isOn, nonzeros, sound}
 use Rattle.ranking.specs.Ranking.{ranked, keptCount, restOf, omegaOf}
 use Rattle.halve.specs.Halve.{Halved}

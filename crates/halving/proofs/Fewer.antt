@@ -23,7 +23,7 @@ use Rattle.ieee.proofs.Norms.{l1}
 use Rattle.ieee.proofs.Alikes.{sum-up-is}
 use Rattle.ieee.proofs.Tests.{tests-of-positive}
 use Rattle.ieee.proofs.Pass.{Step, step-sum, step-normal, pass-signs}
-use Rattle.direction.specs.Constants.{two}
+use Rattle.ieee.specs.Constants.{two}
 use Rattle.coloring.proofs.Colours.{colours}
 use Rattle.weights.specs.Weights.{isOn, nonzeros, l1Of, sound, overAt, normalized}
 use Rattle.ranking.specs.Ranking.{ranked, restOf, omegaOf}

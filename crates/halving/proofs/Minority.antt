@@ -13,7 +13,7 @@ use lib.Ieee.{Float, lt, eq, ofBits}
 use Rattle.seq.specs.Choice.{pick}
 use Rattle.seq.specs.Sums.{plusZero, at}
 use Rattle.seq.specs.Keep.{count}
-use Rattle.direction.specs.Constants.{one, minusOne}
+use Rattle.ieee.specs.Constants.{one, minusOne}
 use Rattle.ieee.proofs.Counting.{count-le}
 use Rattle.places.proofs.Places.{count-all}
 use Rattle.coloring.proofs.Marked.{Colour}

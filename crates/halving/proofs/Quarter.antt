@@ -15,7 +15,7 @@ use Rattle.seq.specs.Keep.{keep}
 use Rattle.seq.proofs.Keeping.{keep-good, length-keep}
 use Rattle.ieee.proofs.Counting.{count-le}
 use Rattle.coloring.proofs.Colours.{Coloured, colours}
-use Rattle.direction.specs.Constants.{two}
+use Rattle.ieee.specs.Constants.{two}
 use Rattle.weights.specs.Weights.{isOn, nonzeros}
 use Rattle.ranking.specs.Ranking.{ranked, keptCount, restOf, omegaOf}
 use Rattle.halve.specs.Halve.{Halved, halvedOnce}

@@ -7,7 +7,7 @@ use mathlib.Core.List.{List}
 use lib.Dec.{eqb, leb}
 use Rattle.fields.specs.Bytes.{tab, newline, byteAt, spelled}
 use Rattle.fields.specs.Fields.{isBits, countAt}
-use Rattle.fields.proofs.Values.{both}
+use Rattle.seq.proofs.Choosing.{both}
 use Rattle.head.specs.Words.{thinWord}
 use Rattle.head.specs.FirstLine.{ruleAt, sizesAt, headOf}
 use Rattle.head.specs.declared.RuleField.{RuleField}

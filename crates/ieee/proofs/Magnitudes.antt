@@ -12,6 +12,7 @@ use lib.Ieee.Fits.{up-pos, down-pos, neg-fits}
 use lib.Ieee.Bits.{is-true, is-false, ofBits-toBits}
 use lib.Ieee.Exact.{odd-sign}
 use Rattle.seq.specs.Choice.{pick}
+use Rattle.ieee.specs.Constants.{one, minusOne}
 use Rattle.ieee.specs.Units.{sign}
 use Rattle.ieee.specs.Magnitude.{absOf, signumOf, aboveOf}
 use Rattle.ieee.proofs.Grid.{sign-of-value}
@@ -118,9 +119,14 @@ signum-is nan h = absurd h
 signum-is (inf s) h = refl
 signum-is (fin s m e) h = refl
 
-minus-one : neg (ofBits binary64 0x3ff0_0000_0000_0000) ≡ fin true 1 (pos 0)
+-- -1.0 as the code has it
+pub minus-one : neg one ≡ minusOne
 unfolding ofBits neg
 minus-one = refl
+
+minus-one-sign : neg (ofBits binary64 0x3ff0_0000_0000_0000) ≡ fin true 1 (pos 0)
+unfolding ofBits neg
+minus-one-sign = refl
 
 pub signum-plus : (x : Float) → T (fits binary64 x) → eq x x ≡ true → toBits binary64 x < 2 ^ 63 → ofBits binary64 0x3ff0_0000_0000_0000 ≡ signumOf x
 signum-plus x f h l =
@@ -130,7 +136,7 @@ signum-plus x f h l =
 pub signum-minus : (x : Float) → T (fits binary64 x) → eq x x ≡ true → 2 ^ 63 ≤ toBits binary64 x → neg (ofBits binary64 0x3ff0_0000_0000_0000) ≡ signumOf x
 signum-minus x f h l =
     let n = no-nan-self x h in
-    minus-one ∙ ap (λ (s : Bool). fin s 1 (pos 0)) (sym (sign-is x f n ∙ is-true (leb (2 ^ 63) (toBits binary64 x)) (le→leb (2 ^ 63) (toBits binary64 x) l))) ∙ sym (signum-is x n)
+    minus-one-sign ∙ ap (λ (s : Bool). fin s 1 (pos 0)) (sym (sign-is x f n ∙ is-true (leb (2 ^ 63) (toBits binary64 x)) (le→leb (2 ^ 63) (toBits binary64 x) l))) ∙ sym (signum-is x n)
 
 pub signum-nan : (x : Float) → eq x x ≡ false → x ≡ signumOf x
 signum-nan x h = rw (nan-self x h)

@@ -1,5 +1,6 @@
 -- Comparisons of values are comparisons of their ranks: so `le` is an order of the values that are not NaN, and `lt` its opposite.
 use mathlib.Core.Path.{_≡_, refl, sym, ap, _∙_, subst}
+use mathlib.Core.Logic.{_⊎_, inl, inr}
 use Prim.Native.Nat.{ℕ, suc, _+_, _-_, _*_, _^_, _≤_, _<_}
 use native.Mathlib.Nat.{le-refl, le-trans, le-of-eq, le-of-lt, add-mul, mul-comm, mul-assoc, mul-right-comm, mul-pos, zero-mul, eq-of-mul-eq-mul-right}
 use native.Mathlib.Omega.{arith}
@@ -118,6 +119,28 @@ eq-is f (inf s) (fin t n d) p q a b = differ (overflow f) (mag f (fin t n d)) (B
 eq-is f (fin s m e) nan p q a b = absurd b
 eq-is f (fin s m e) (inf t) p q a b = differ (mag f (fin s m e)) (overflow f) (Bool·beq s t || eqb (mag f (fin s m e)) 0) (λ h. apart (mag f (fin s m e)) (overflow f) (units f s m e p .inside) h)
 eq-is f (fin s m e) (fin t n d) p q a b = level-is (m * up e) (n * up d) (down e) (down d) (mag f (fin s m e)) (mag f (fin t n d)) (2 ^ low f) (pow-pos (low f)) (down-pos e) (down-pos d) (units f s m e p .cross) (units f t n d q .cross) s t
+
+-- ---- a NaN
+
+-- a NaN is at or above nothing
+pub not-under : (x : Float) → le x nan ≡ false
+unfolding le lt eq
+not-under nan = refl
+not-under (inf s) = refl
+not-under (fin s m e) = refl
+
+-- a value is a NaN or a number
+pub nan-or-number : (x : Float) → (x ≡ nan) ⊎ T (isNum x)
+nan-or-number nan = inl refl
+nan-or-number (inf s) = inr tt
+nan-or-number (fin s m e) = inr tt
+
+-- nothing is below a NaN
+pub none-below : (x : Float) → lt x nan ≡ false
+unfolding lt
+none-below nan = refl
+none-below (inf s) = refl
+none-below (fin s m e) = refl
 
 -- ---- a number of the format
 pub record Number (f : Format) (x : Float) : Type 0 where

@@ -4,6 +4,7 @@ use mathlib.Core.Bool.{Bool, false, not}
 use lib.IntN.{pos}
 use lib.Ieee.{Float, nan, inf, fin, isNan, lt}
 use Rattle.seq.specs.Choice.{pick}
+use Rattle.seq.specs.Sums.{plusZero}
 
 -- the sign dropped; a NaN stays a NaN
 abbrev pub absOf : Float → Float
@@ -33,6 +34,11 @@ smallerOf x y = pick (isNan x) y (pick (lt y x) y x)
 unfoldable pub largestTo : (ℕ → Float) → ℕ → Float
 largestTo v zero = fin false 0 (pos 0)
 largestTo v (suc k) = let r : Float = largestTo v k in largerOf r (v k)
+
+-- the largest magnitude of v 0, .., v (k - 1) from +0.0, each NaN skipped
+unfoldable pub maxAbsTo : (ℕ → Float) → ℕ → Float
+maxAbsTo v zero = plusZero
+maxAbsTo v (suc k) = largerOf (maxAbsTo v k) (absOf (v k))
 
 -- a stands above b by magnitude: a NaN above all else, and no NaN above another
 unfoldable pub aboveOf : Float → Float → Bool

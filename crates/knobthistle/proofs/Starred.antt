@@ -12,11 +12,10 @@ use lib.Seq.{ext-getD}
 use lib.Ieee.{Float, nan, binary64, ofBits, fits, isNan, add, sub, mul, div, lt, le, ne, eq}
 use Rattle.seq.specs.Lists.{tabulate}
 use Rattle.seq.specs.Sums.{plusZero, at, sumFrom}
-use Rattle.seq.specs.Keep.{count}
-use Rattle.ieee.specs.Magnitude.{signumOf, aboveOf, largerOf}
+use Rattle.seq.specs.Keep.{count, allTo}
+use Rattle.ieee.specs.Magnitude.{signumOf, aboveOf, largerOf, maxAbsTo}
 use Rattle.ieee.proofs.Normalised.{Normal}
-use Rattle.linear.specs.Vectors.{maxAbsTo}
-use Rattle.limits.specs.Limits.{numbersNeeded, indicesNeeded, allTo}
+use Rattle.limits.specs.Limits.{numbersNeeded, indicesNeeded}
 use Rattle.limits.specs.Matrix.{columnsOf}
 use Rattle.margins.specs.Margins.{changeTo, maxChange}
 use Rattle.weights.specs.Weights.{nonzeros, isOn, l1Of, normalized}
@@ -34,7 +33,7 @@ use Rattle.rules.specs.declared.Rule.the-variants.{Target, Within}
 use Rattle.draw.specs.Uniform.{uniformAt}
 use Rattle.draw.proofs.Cases.{state-becomes-zero, largest}
 use Rattle.margins.proofs.SmallCase.{answered}
-use Rattle.rules.proofs.Choosing.{first-holds}
+use Rattle.seq.proofs.Choosing.{first-holds}
 use Rattle.stages.proofs.Halting.{FirstStop, few-rests}
 use Rattle.sparsification.proofs.Accepting.{values-good}
 use Rattle.stages.proofs.Passing.{normal-start}

@@ -1,11 +1,12 @@
 -- How large a matrix may be, how much scratch it asks for, and how large its entries may be.
-use Prim.Native.Nat.{ℕ, zero, suc, _+_, _*_}
-use mathlib.Core.Bool.{Bool, true, _&&_, _||_}
+use Prim.Native.Nat.{ℕ, _+_, _*_}
+use mathlib.Core.Bool.{Bool, _||_}
 use mathlib.Core.List.{List}
 use lib.Dec.{ltb}
 use lib.ListN.{length}
 use lib.Ieee.{Float, le}
 use Rattle.seq.specs.Sums.{at}
+use Rattle.seq.specs.Keep.{allTo}
 use Rattle.ieee.specs.Magnitude.{absOf}
 
 -- more than 256 columns or 4096 rows
@@ -23,11 +24,6 @@ indicesNeeded m n = 8 * (m + n + 1)
 -- a scratch of these lengths is too short
 abbrev pub scratchShort : ℕ → ℕ → ℕ → ℕ → Bool
 scratchShort m n numbers indices = ltb numbers (numbersNeeded m n) || ltb indices (indicesNeeded m n)
-
--- every one of 0, .., k - 1 passes
-unfoldable pub allTo : (ℕ → Bool) → ℕ → Bool
-allTo f zero = true
-allTo f (suc k) = allTo f k && f k
 
 -- every entry is at most so large in magnitude; a NaN is not
 abbrev pub bounded : Float → List Float → Bool

@@ -9,10 +9,9 @@ use native.Mathlib.Nat.{eq-or-lt-of-le}
 use lib.ListN.{length}
 use lib.Ieee.{Float, nan, inf, fin, ofBits, isNan, lt}
 use Rattle.seq.specs.Sums.{at}
-use Rattle.ieee.specs.Magnitude.{absOf, largerOf}
+use Rattle.ieee.specs.Magnitude.{absOf, largerOf, maxAbsTo}
 use Rattle.ieee.proofs.Maximum.{larger-nan}
 use Rattle.ieee.proofs.Results.{larger-has}
-use Rattle.linear.specs.Vectors.{maxAbsTo}
 use Rattle.linear.specs.Larger.{NoLarger}
 
 larger-number : (x y : Float) → isNan x ≡ false → isNan (largerOf x y) ≡ false

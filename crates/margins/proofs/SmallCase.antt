@@ -3,8 +3,7 @@ use mathlib.Core.Path.{_≡_, refl}
 use mathlib.Core.List.{List, [], _∷_}
 use lib.Ieee.{Float, binary64, ofBits, isNan, lt, ne, sub, mul}
 use Rattle.seq.specs.Sums.{plusZero}
-use Rattle.ieee.specs.Magnitude.{largerOf}
-use Rattle.linear.specs.Vectors.{maxAbsTo}
+use Rattle.ieee.specs.Magnitude.{largerOf, maxAbsTo}
 use Rattle.limits.specs.Matrix.{columnsOf}
 use Rattle.margins.specs.Margins.{changeTo, maxChange}
 use Rattle.margins.specs.Answers.{marginFault, changeAnswer}

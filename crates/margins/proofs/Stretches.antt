@@ -16,7 +16,7 @@ use Rattle.seq.specs.Sums.{at}
 use Rattle.seq.specs.Keep.{count}
 use Rattle.seq.proofs.Filling.{length-tab, getD-tab}
 use Rattle.seq.proofs.Keeping.{keep-short, length-keep}
-use Rattle.linear.specs.Vectors.{maxAbsTo}
+use Rattle.ieee.specs.Magnitude.{maxAbsTo}
 use Rattle.margins.specs.Margins.{turns}
 use Rattle.margins.specs.Blocks.{maxAbsFrom}
 

@@ -7,7 +7,7 @@ use lib.Ieee.{Float, binary64, add, sub, mul, ne, lt}
 use Rattle.seq.specs.Choice.{pick}
 use Rattle.seq.specs.Sums.{plusZero, sumTo, at}
 use Rattle.seq.specs.Keep.{count}
-use Rattle.linear.specs.Vectors.{maxAbsTo}
+use Rattle.ieee.specs.Magnitude.{maxAbsTo}
 
 -- the running sum of u (before - after) at row i over the columns below k, from +0.0; a difference that is 0 is skipped
 unfoldable pub changeTo : (ℕ → ℕ → Float) → List Float → List Float → ℕ → ℕ → Float

@@ -18,15 +18,14 @@ use Rattle.seq.specs.Keep.{keep, Pushed}
 use Rattle.seq.specs.Indices.{Below}
 use Rattle.seq.proofs.Filling.{length-tab, getD-tab}
 use Rattle.seq.proofs.Keeping.{keep-short, keep-good}
-use Rattle.order.specs.Order.{isSet}
+use Rattle.seq.specs.Marks.{isSet}
 use Rattle.entries.specs.Entries.{entryOf, Chosen}
 use Rattle.freeze.specs.Freeze.{Walk}
 use Rattle.begin.specs.Begin.{begun}
 use Rattle.walk.specs.Walk.{phaseOf}
 use Rattle.freeze.specs.Held.{axIn, Roomy}
-use Rattle.places.specs.Places.{chosen, putBack, roundedAt}
+use Rattle.places.specs.Places.{chosen, putBack, roundedAt, wordsAt}
 use Rattle.phasing.specs.Phase.{Between, roundedOff, phased}
-use Rattle.places.specs.Places.{wordsAt}
 use Rattle.phasing.specs.Phasing.{between, insideOf, PhasedAt}
 use Rattle.walk.proofs.SameEntries.{begun-same, phase-same}
 

@@ -8,7 +8,7 @@ use Rattle.seq.specs.Choice.{pick}
 use Rattle.seq.specs.Lists.{tabulate, repeated}
 use Rattle.seq.specs.Sums.{plusZero}
 use Rattle.seq.specs.Keep.{keep}
-use Rattle.order.specs.Order.{isSet}
+use Rattle.seq.specs.Marks.{isSet}
 use Rattle.freeze.specs.Freeze.{Walk}
 use Rattle.begin.specs.Begin.{begun}
 use Rattle.walk.specs.Walk.{phaseOf}

@@ -8,8 +8,8 @@ use lib.ListN.{length, getD, set}
 use lib.Ieee.{Float, nan, le, neg}
 use Rattle.seq.specs.Sums.{plusZero, at}
 use Rattle.seq.proofs.Filling.{Filled, turn, still}
-use Rattle.direction.specs.Constants.{one}
-use Rattle.direction.proofs.Turning.{minus-one}
+use Rattle.ieee.specs.Constants.{one}
+use Rattle.ieee.proofs.Magnitudes.{minus-one}
 use Rattle.places.specs.Places.{roundedAt}
 
 module _ {x₀ x : List Float} (free : List ℕ) {j : ℕ} (v : Filled (roundedAt x₀ free) x₀ j x) (h : j < length x₀) (f : getD free j 0 ≡ 1) where

@@ -6,8 +6,8 @@ use lib.Ieee.{Float, le}
 use Rattle.seq.specs.Choice.{pick}
 use Rattle.seq.specs.Lists.{tabulate}
 use Rattle.seq.specs.Sums.{plusZero, at}
-use Rattle.direction.specs.Constants.{one, minusOne}
-use Rattle.order.specs.Order.{isSet}
+use Rattle.ieee.specs.Constants.{one, minusOne}
+use Rattle.seq.specs.Marks.{isSet}
 
 -- the words of v at some places
 abbrev pub wordsAt : List ℕ → List ℕ → List ℕ

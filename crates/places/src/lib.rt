@@ -6,7 +6,7 @@ ghost use Rattle.seq.specs.Lists.{tabulate};
 ghost use Rattle.seq.specs.Sums.{plusZero};
 ghost use Rattle.seq.specs.Keep.{keep, Pushed};
 ghost use Rattle.seq.specs.Indices.{Below};
-ghost use Rattle.order.specs.Order.{isSet};
+ghost use Rattle.seq.specs.Marks.{isSet};
 ghost use Rattle.places.specs.Places.{wordsAt, chosen, putBack, roundedAt};
 
 // The places of the marks that are set, in order, at the front of places; how many.

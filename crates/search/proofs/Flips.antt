@@ -10,10 +10,11 @@ use lib.Ieee.{Float, binary64, mul, neg, lt}
 use Rattle.seq.specs.Choice.{pick}
 use Rattle.seq.specs.Lists.{tabulate}
 use Rattle.seq.specs.Sums.{at}
-use Rattle.linear.specs.Vectors.{maxAbsTo, maxAbsOf}
+use Rattle.linear.specs.Vectors.{maxAbsOf}
+use Rattle.ieee.specs.Magnitude.{maxAbsTo}
 use Rattle.columns.specs.Kernels.{lessAt}
-use Rattle.direction.specs.Constants.{two, improvement}
-use Rattle.search.specs.Search.{Search, improves, flipped, sweepTo, sweptOf, searchTo, searched}
+use Rattle.ieee.specs.Constants.{two}
+use Rattle.search.specs.Search.{improvement, Search, improves, flipped, sweepTo, sweptOf, searchTo, searched}
 use Rattle.search.specs.Searching.{searchOf, Tried, Swept}
 use Rattle.search.specs.declared.Found.{Found}
 

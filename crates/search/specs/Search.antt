@@ -3,12 +3,13 @@ use Prim.Native.Nat.{ℕ, zero, suc}
 use mathlib.Core.Bool.{Bool, true, false}
 use mathlib.Core.List.{List}
 use lib.ListN.{length, set}
-use lib.Ieee.{Float, binary64, sub, mul, neg, lt}
+use lib.Ieee.{Float, binary64, ofBits, sub, mul, neg, lt}
 use Rattle.seq.specs.Choice.{pick}
 use Rattle.seq.specs.Lists.{tabulate}
 use Rattle.seq.specs.Sums.{at}
-use Rattle.linear.specs.Vectors.{maxAbsTo, maxAbsOf}
-use Rattle.direction.specs.Constants.{two, improvement}
+use Rattle.linear.specs.Vectors.{maxAbsOf}
+use Rattle.ieee.specs.Magnitude.{maxAbsTo}
+use Rattle.ieee.specs.Constants.{one, two}
 
 -- what a search holds: the colours, A x, its largest magnitude, and whether this sweep flipped one
 pub record Search : Type 0 where
@@ -20,6 +21,10 @@ pub record Search : Type 0 where
 -- row i of A x with a column's coordinate flipped, which was x
 abbrev pub flippedAt : (ℕ → Float) → Float → List Float → ℕ → Float
 flippedAt column x ax i = sub binary64 (at ax i) (mul binary64 (mul binary64 two x) (column i))
+
+-- 1 - 1e-12, the difference rounded: a flip has to lower the largest magnitude below this part of it
+abbrev pub improvement : Float
+improvement = sub binary64 one (ofBits binary64 0x3D71_9799_812D_EA11)
 
 -- the flip of column j lowers the largest magnitude enough
 unfoldable pub improves : (ℕ → Float) → Search → ℕ → Bool

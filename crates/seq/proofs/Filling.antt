@@ -1,4 +1,4 @@
--- Laws of `tabulate`, and of a loop that fills a list from the front: its invariant is `Filled`, and `start`, `turn` and `whole` are its three steps.
+-- Laws of `tabulate`, and of a loop that fills a list from the front: its invariant is `Filled`, and `start`, `turn` (or `skip`, which stores nothing) and `whole` are its steps.
 use Prim.Native.Nat.{ℕ, zero, suc, _+_, _*_, _-_, _≤_, _<_}
 use mathlib.Core.Path.{_≡_, refl, sym, ap, _∙_}
 use mathlib.Core.List.{List, [], _∷_, _++_, append-nil}
@@ -52,6 +52,16 @@ module _ {A : Type 0} where
   pub turn : {f : ℕ → A} {w v : List A} {i : ℕ} {x : A} → Filled f w i v → i < length w → x ≡ f i → Filled f w (i + 1) (set v i x)
   turn {f} {w} {v} {i} {x} e h k =
       record { upto = omega arith; long = length-set v i x ∙ e .long; is = rw (e .is, k) (filled-more f w i x h) }
+
+  -- a turn that stores nothing, where the place is right already
+  pub skip : {f : ℕ → A} {w v : List A} {i : ℕ} (z : A) → Filled f w i v → i < length w → f i ≡ getD w i z → Filled f w (i + 1) v
+  unfolding tabulate
+  skip {f} {w} {v} {i} z e h k =
+      record {
+        upto = omega arith;
+        long = e .long;
+        is = e .is ∙ rw (add-one i, drop-cons w i z h, ← k) (sym (append-snoc (tabulate f i) (f i) (drop (suc i) w)));
+      }
 
   pub still : {f : ℕ → A} {w v : List A} {i : ℕ} → Filled f w i v → i < length w → (z : A) → getD v i z ≡ getD w i z
   still {f} {w} {v} {i} e h z = rw (e .is) (filled-at f w i z h)

@@ -1,4 +1,4 @@
--- Laws of `keep`, and of a loop that appends to a buffer.
+-- Laws of `keep` and `count`, and of a loop that appends to a buffer.
 use Prim.Native.Nat.{ℕ, zero, suc, _+_, _≤_, _<_}
 use mathlib.Core.Path.{_≡_, refl, ap, _∙_}
 use mathlib.Core.Bool.{Bool, true, false}
@@ -67,3 +67,38 @@ length-keep f (suc k) = go (f k) (length-keep f k)
     go : (t : Bool) → length (keep f k) ≡ count f k → length (pick t (keep f k ++ (k ∷ [])) (keep f k)) ≡ pick t (suc (count f k)) (count f k)
     go true h = rw length-append (omega arith)
     go false h = h
+
+-- what a count is at one more index, for each way that the test goes
+pub counts : (f : ℕ → Bool) (i : ℕ) → f i ≡ true → count f (i + 1) ≡ count f i + 1
+unfolding count
+counts f i h = rw (add-one i, h) (omega arith)
+
+pub passes : (f : ℕ → Bool) (i : ℕ) → f i ≡ false → count f (i + 1) ≡ count f i
+unfolding count
+passes f i h = rw (add-one i, h)
+
+pub count-short : (f : ℕ → Bool) (k : ℕ) → count f k ≤ k
+count-short f k = omega (arith, length-keep f k, keep-short f k)
+
+pub count-same : (f g : ℕ → Bool) (k : ℕ) → ((i : ℕ) → i < k → f i ≡ g i) → count f k ≡ count g k
+unfolding count
+count-same f g zero h = refl
+count-same f g (suc k) h = rw (count-same f g k (λ i l. h i (omega arith)), h k (omega arith))
+
+-- one fewer, where the tests differ at p alone
+pub count-less : (f g : ℕ → Bool) (p k : ℕ) → f p ≡ true → g p ≡ false → ((i : ℕ) → (i ≡ p → ⊥) → f i ≡ g i) → p < k → count f k ≡ suc (count g k)
+unfolding count
+count-less f g p zero t e h l = absurd (omega arith)
+count-less f g p (suc k) t e h l = go (decLt p k) (count-less f g p k t e h)
+  where
+    last : (b : Bool) (c d : ℕ) → c ≡ suc d → pick b (suc c) c ≡ suc (pick b (suc d) d)
+    last true c d q = ap suc q
+    last false c d q = q
+
+    go : Dec (p < k) → (p < k → count f k ≡ suc (count g k)) → pick (f k) (suc (count f k)) (count f k) ≡ suc (pick (g k) (suc (count g k)) (count g k))
+    go (yes m) r = rw (h k (λ q. absurd (omega arith))) (last (g k) (count f k) (count g k) (r m))
+    go (no m) r =
+        let q : k ≡ p = omega arith in
+        let a : f k ≡ true = ap f q ∙ t in
+        let b : g k ≡ false = ap g q ∙ e in
+        rw (a, b) (ap suc (count-same f g k (λ i j. h i (λ z. absurd (omega arith)))))

@@ -1,7 +1,9 @@
 -- The laws of the vocabulary, for every crate above.
+pub mod Choosing
 pub mod Filling
 pub mod Parts
 pub mod Loops
 pub mod Keeping
+pub mod Every
 pub mod Sorting
 pub mod Summing

@@ -1,7 +1,7 @@
--- The indices that pass a test, in order, and how many they are.
+-- The indices that pass a test, in order, how many they are, and whether all do.
 use Prim.Native.Nat.{ℕ, zero, suc, _≤_}
 use mathlib.Core.Path.{_≡_}
-use mathlib.Core.Bool.{Bool}
+use mathlib.Core.Bool.{Bool, true, _&&_}
 use mathlib.Core.List.{List, [], _∷_, _++_}
 use lib.ListN.{length, take}
 use Rattle.seq.specs.Choice.{pick}
@@ -15,6 +15,11 @@ keep f (suc k) = let r : List ℕ = keep f k in pick (f k) (r ++ (k ∷ [])) r
 unfoldable pub count : (ℕ → Bool) → ℕ → ℕ
 count f zero = 0
 count f (suc k) = let r : ℕ = count f k in pick (f k) (suc r) r
+
+-- every one of 0, .., k - 1 passes
+unfoldable pub allTo : (ℕ → Bool) → ℕ → Bool
+allTo f zero = true
+allTo f (suc k) = allTo f k && f k
 
 -- the first n elements of v are xs, and xs is n long
 pub record Pushed (xs : List ℕ) (n : ℕ) (v : List ℕ) : Type 0 where

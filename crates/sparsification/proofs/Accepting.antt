@@ -12,8 +12,9 @@ use lib.Ieee.Scale.{finite}
 use borrow.Author.Tests.{eqb-true, ltb-false, not-false}
 use Rattle.seq.specs.Choice.{pick, orElse}
 use Rattle.seq.specs.Sums.{plusZero, at}
-use Rattle.limits.specs.Limits.{tooLarge, scratchShort, numbersNeeded, indicesNeeded, bounded, allTo}
-use Rattle.direction.specs.Constants.{one}
+use Rattle.limits.specs.Limits.{tooLarge, scratchShort, numbersNeeded, indicesNeeded, bounded}
+use Rattle.seq.specs.Keep.{allTo}
+use Rattle.ieee.specs.Constants.{one}
 use Rattle.weights.specs.Weights.{nonzeros, normalized, l1Of, sound}
 use Rattle.limits.specs.Matrix.{columnsOf}
 use Rattle.stages.specs.Stages.{movedBy}
@@ -22,7 +23,7 @@ use Rattle.rules.specs.Rules.{ruleFault}
 use Rattle.faults.specs.Faults.{sizeFault, valueFault, jobFault}
 use Rattle.sparsification.specs.declared.Answer.{Answer}
 use Rattle.rules.specs.declared.Rule.{Rule}
-use Rattle.rules.proofs.Choosing.{neither, both, never, shown}
+use Rattle.seq.proofs.Choosing.{neither, both, never, shown}
 
 -- the first of two numbers that is not 0
 pub no-fault : (a b : ℕ) → orElse a b ≡ 0 → (a ≡ 0) × (b ≡ 0)

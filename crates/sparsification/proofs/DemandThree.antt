@@ -28,7 +28,7 @@ use Rattle.sparsification.specs.declared.Answer.{Answer}
 use Rattle.rules.specs.declared.Cap.the-variants.{Absent, AtMost}
 use Rattle.rules.specs.declared.Rule.{Rule}
 use Rattle.rules.specs.declared.Rule.the-variants.{Target, Within}
-use Rattle.rules.proofs.Choosing.{ways, never, both-hold}
+use Rattle.seq.proofs.Choosing.{ways, never, both-hold}
 use Rattle.stages.proofs.Halting.{Goes, goes, few-rests, stop-is-first, sound-to}
 use Rattle.stages.proofs.Lengths.{length-stage, length-normalized}
 use Rattle.sparsification.proofs.Monotone.{Double, no-sooner, among-stops, target-kept, cap-kept, allowance-kept}

@@ -14,7 +14,7 @@ use Rattle.seq.specs.Lists.{repeated}
 use Rattle.seq.specs.Sums.{plusZero}
 use Rattle.limits.specs.Matrix.{columnsOf}
 use Rattle.limits.specs.Limits.{bounded}
-use Rattle.direction.specs.Constants.{one}
+use Rattle.ieee.specs.Constants.{one}
 use Rattle.margins.specs.Margins.{maxChange}
 use Rattle.weights.specs.Weights.{nonzeros, l1Of, sound, normalized}
 use Rattle.halve.specs.Handed.{Ready}

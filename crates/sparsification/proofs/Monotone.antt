@@ -24,7 +24,7 @@ use Rattle.rules.specs.declared.Cap.{Cap}
 use Rattle.rules.specs.declared.Cap.the-variants.{Absent, AtMost}
 use Rattle.rules.specs.declared.Rule.{Rule}
 use Rattle.rules.specs.declared.Rule.the-variants.{Target, Within}
-use Rattle.rules.proofs.Choosing.{neither, one-holds, both, never, weaker-or, weaker-and, weaker-not, shown, holds}
+use Rattle.seq.proofs.Choosing.{neither, one-holds, both, never, weaker-or, weaker-and, weaker-not, shown, holds}
 use Rattle.stages.proofs.Halting.{Falls, FirstStop, Goes, goes, stop-is-first}
 use Rattle.sparsification.proofs.Unmoved.{moved-fits, no-change}
 use Rattle.stages.proofs.Lengths.{length-stage}

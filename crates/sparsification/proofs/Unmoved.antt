@@ -13,10 +13,9 @@ use lib.Ieee.Scale.{finite, overflow}
 use borrow.Author.Tests.{le-ltb}
 use Rattle.seq.specs.Choice.{pick}
 use Rattle.seq.specs.Sums.{plusZero, at}
-use Rattle.linear.specs.Vectors.{maxAbsTo}
+use Rattle.ieee.specs.Magnitude.{maxAbsTo, absOf, largerOf}
 use Rattle.margins.specs.Margins.{changeTo, maxChange}
 use Rattle.ieee.specs.Units.{mag}
-use Rattle.ieee.specs.Magnitude.{absOf, largerOf}
 use Rattle.ieee.proofs.Grid.{rounded}
 use Rattle.ieee.proofs.Ops.{grid-zero}
 use Rattle.ieee.proofs.Signs.{nought, nonzero-is}

@@ -27,8 +27,9 @@ use Rattle.rules.specs.declared.Rule.{Rule}
 use Rattle.rules.specs.declared.Rule.the-variants.{Target, Within}
 use Rattle.stages.specs.declared.Reached.{Reached}
 use Rattle.trial.specs.declared.Tried.{Tried}
-use Rattle.rules.proofs.Choosing.{first-holds, second-holds, both, never}
-use Rattle.stages.proofs.Halting.{Falls, only, stop-is-first, below-more, count-short}
+use Rattle.seq.proofs.Choosing.{first-holds, second-holds, both, never}
+use Rattle.stages.proofs.Halting.{Falls, only, stop-is-first, below-more}
+use Rattle.seq.proofs.Keeping.{count-short}
 use Rattle.stages.proofs.Lengths.{length-pass}
 
 -- a positive target is not refused

@@ -10,22 +10,13 @@ use lib.ListN.{length}
 use lib.Ieee.{Float}
 use borrow.Author.Tests.{le-leb, not-false}
 use Rattle.seq.specs.Choice.{pick}
-use Rattle.seq.specs.Keep.{count}
+use Rattle.seq.proofs.Keeping.{count-short}
 use Rattle.stages.specs.Stages.{stageOf}
 use Rattle.stages.specs.Stopping.{entriesAt, rests, breaks, exceeds, stops, firstStop, stopOf}
 use Rattle.rules.specs.Rules.{ruleFault}
 use Rattle.rules.specs.declared.Rule.{Rule}
 use Rattle.rules.specs.declared.Rule.the-variants.{Target, Within}
-use Rattle.rules.proofs.Choosing.{neither, first-holds, never}
-
-pub count-short : (f : ℕ → Bool) (k : ℕ) → count f k ≤ k
-unfolding count
-count-short f zero = omega arith
-count-short f (suc k) = go (f k) (count-short f k)
-  where
-    go : (t : Bool) → count f k ≤ k → pick t (suc (count f k)) (count f k) ≤ suc k
-    go true h = omega arith
-    go false h = omega arith
+use Rattle.seq.proofs.Choosing.{neither, first-holds, never}
 
 -- a target that is not refused is at least 1
 pub target-some : (t : ℕ) → ruleFault (Target t) ≡ 0 → 1 ≤ t

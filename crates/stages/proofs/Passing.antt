@@ -24,7 +24,7 @@ use Rattle.halve.specs.Handed.{halvesOf}
 use Rattle.halving.proofs.Fewer.{pass-fewer, pass-normal, pass-same-sign}
 use Rattle.stages.specs.Stages.{stageOf}
 use Rattle.stages.specs.Among.{Among}
-use Rattle.rules.proofs.Choosing.{both, holds, shown}
+use Rattle.seq.proofs.Choosing.{both, holds, shown}
 use Rattle.stages.proofs.Halting.{Falls, Goes}
 use Rattle.stages.proofs.Lengths.{length-stage, length-normalized}
 

@@ -17,7 +17,7 @@ use Rattle.rules.specs.Rules.{meets}
 use Rattle.trial.specs.Trial.{TriedOnce, aboveAfter}
 use Rattle.rules.specs.declared.Cap.{Cap}
 use Rattle.trial.specs.declared.Tried.{Tried}
-use Rattle.rules.proofs.Choosing.{never}
+use Rattle.seq.proofs.Choosing.{never}
 
 -- the matrix of a pass is one that a change is measured over
 pub lent-of : {u : List Float} {n : ℕ} {w numbers : List Float} {indices : List ℕ} (start : List Float) → Ready u n w numbers indices → length start ≡ length w → Lent u (length start) n

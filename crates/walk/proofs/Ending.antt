@@ -14,47 +14,14 @@ use lib.Ieee.Scale.{finite}
 use Rattle.seq.specs.Choice.{pick}
 use Rattle.seq.specs.Keep.{count}
 use Rattle.seq.specs.Until.{run}
+use Rattle.seq.proofs.Keeping.{count-less}
 use Rattle.seq.proofs.Loops.{stays, enough, turns}
 use Rattle.entries.specs.Rows.{times}
-use Rattle.order.specs.Order.{isSet}
+use Rattle.seq.specs.Marks.{isSet}
 use Rattle.direction.specs.Direction.{drawn, directed, tooShort, uphill, turned}
 use Rattle.direction.specs.Step.{reachTo}
 use Rattle.freeze.specs.Freeze.{Walk, freezes, frozenAt, freezeTo}
 use Rattle.walk.specs.Walk.{Stepped, drew, advanced, steppedAlong, stepOf, ended, freeOnes, left, phaseOf}
-
--- ---- how many pass a test
-
-pub count-same : (f g : ℕ → Bool) (k : ℕ) → ((i : ℕ) → i < k → f i ≡ g i) → count f k ≡ count g k
-unfolding count
-count-same f g zero h = refl
-count-same f g (suc k) h = rw (count-same f g k (λ i l. h i (omega arith)), h k (omega arith))
-
--- one fewer, where the tests differ at p alone
-pub count-less : (f g : ℕ → Bool) (p k : ℕ) → f p ≡ true → g p ≡ false → ((i : ℕ) → (i ≡ p → ⊥) → f i ≡ g i) → p < k → count f k ≡ suc (count g k)
-unfolding count
-count-less f g p zero t e h l = absurd (omega arith)
-count-less f g p (suc k) t e h l = go (decLt p k) (count-less f g p k t e h)
-  where
-    last : (b : Bool) (c d : ℕ) → c ≡ suc d → pick b (suc c) c ≡ suc (pick b (suc d) d)
-    last true c d q = ap suc q
-    last false c d q = q
-
-    go : Dec (p < k) → (p < k → count f k ≡ suc (count g k)) → pick (f k) (suc (count f k)) (count f k) ≡ suc (pick (g k) (suc (count g k)) (count g k))
-    go (yes m) r = rw (h k (λ q. absurd (omega arith))) (last (g k) (count f k) (count g k) (r m))
-    go (no m) r =
-        let q : k ≡ p = omega arith in
-        let a : f k ≡ true = ap f q ∙ t in
-        let b : g k ≡ false = ap g q ∙ e in
-        rw (a, b) (ap suc (count-same f g k (λ i j. h i (λ z. absurd (omega arith)))))
-
-pub ones-most : (f : ℕ → Bool) (k : ℕ) → count f k ≤ k
-unfolding count
-ones-most f zero = omega arith
-ones-most f (suc k) = go (f k) (ones-most f k)
-  where
-    go : (t : Bool) → count f k ≤ k → pick t (suc (count f k)) (count f k) ≤ suc k
-    go true h = omega arith
-    go false h = omega arith
 
 -- ---- a coordinate that freezes is one free one fewer
 

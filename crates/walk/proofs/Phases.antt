@@ -14,7 +14,7 @@ use Rattle.seq.specs.Sums.{plusZero}
 use Rattle.seq.proofs.Filling.{length-tab}
 use Rattle.linear.proofs.Bases.{length-vectors, inserted-most}
 use Rattle.entries.specs.Rows.{times, rowOf, firstRows}
-use Rattle.order.specs.Order.{isSet}
+use Rattle.seq.specs.Marks.{isSet}
 use Rattle.direction.specs.Direction.{drawn, directed, tooShort, uphill, turned}
 use Rattle.direction.specs.Step.{reachTo}
 use Rattle.freeze.specs.Freeze.{Walk, freezeTo}
@@ -26,7 +26,8 @@ use Rattle.walk.specs.Walking.{StepHolds}
 use Rattle.walk.specs.declared.Went.{Went}
 use Rattle.freeze.proofs.Scratch.{walk-path}
 use Rattle.freeze.proofs.Freezing.{freeze-most, count-most}
-use Rattle.walk.proofs.Ending.{ones-most, both, step-sound, phase-full, phase-on, phase-last}
+use Rattle.walk.proofs.Ending.{both, step-sound, phase-full, phase-on, phase-last}
+use Rattle.seq.proofs.Keeping.{count-short}
 
 -- a step keeps the basis within l
 module _ (z : Float) (a : ℕ → ℕ → Float) (l n : ℕ) (w : Walk) (fits : length (w .basis) ≤ l) where
@@ -73,7 +74,7 @@ module _ (a : ℕ → ℕ → Float) (l : ℕ) (num₀ : List Float) (blocked₀
         xs = refl;
         frees = refl;
         gs = refl;
-        few = omega (arith, ones-most (isSet free₀) (length free₀), r .marks);
+        few = omega (arith, count-short (isSet free₀) (length free₀), r .marks);
         same = refl;
       }
 

@@ -19,11 +19,12 @@ use Rattle.root.proofs.RootResults.{sqrt-alike}
 use Rattle.linear.specs.Vectors.{dotOf, normOf}
 use Rattle.linear.specs.Basis.{lessAt, stripped, passTo, projected, dropTolerance, taken, overAt, unit, inserted}
 use Rattle.entries.specs.Rows.{rowOf, rowNorm, rowNorms, timesAt, times, firstRows}
-use Rattle.order.specs.Order.{comesFirst, isSet, worstTo}
-use Rattle.direction.specs.Constants.{one, minusOne, degenerate, freezeLimit}
-use Rattle.direction.specs.Direction.{afterDraws, drawn, zeroedAt, zeroed, directed, tooShort, uphill, turnedAt, turned}
+use Rattle.order.specs.Order.{comesFirst, worstTo}
+use Rattle.seq.specs.Marks.{isSet}
+use Rattle.ieee.specs.Constants.{one, minusOne}
+use Rattle.direction.specs.Direction.{degenerate, afterDraws, drawn, zeroedAt, zeroed, directed, tooShort, uphill, turnedAt, turned}
+use Rattle.freeze.specs.Freeze.{freezeLimit, Walk, axis, freezes, blocking, frozenAt, freezeTo}
 use Rattle.direction.specs.Step.{reachAt, reachTo, movedAt, moved, alongAt, along}
-use Rattle.freeze.specs.Freeze.{Walk, axis, freezes, blocking, frozenAt, freezeTo}
 use Rattle.begin.specs.Begin.{blockTo, marksTo, begun}
 use Rattle.walk.specs.Walk.{Stepped, drew, advanced, steppedAlong, stepOf, ended, freeOnes, phaseOf}
 use Rattle.walk.proofs.Pairs.{Each, none, more, each-length, each-at, each-set, each-join, each-tab, each-tabs, each-same, pick-both, run-both}

@@ -9,7 +9,7 @@ use Rattle.seq.specs.Choice.{pick}
 use Rattle.seq.specs.Keep.{count}
 use Rattle.seq.specs.Until.{run}
 use lib.Ieee.Scale.{finite}
-use Rattle.order.specs.Order.{isSet}
+use Rattle.seq.specs.Marks.{isSet}
 use Rattle.direction.specs.Direction.{afterDraws, drawn, directed, tooShort, uphill, turned}
 use Rattle.entries.specs.Rows.{times}
 use Rattle.direction.specs.Step.{reachTo, moved, along}

@@ -1,7 +1,7 @@
 -- `coloring::count_free` meets its contract: after i turns the count is that of the marks below i.
 use borrow.Author.Tests.{eq-eqb, ne-eqb}
 use Rattle.seq.specs.Keep.{count}
-use Rattle.order.specs.Order.{isSet}
+use Rattle.seq.specs.Marks.{isSet}
 use borrow.Author.Needs.{needs}
 use Prim.Native.Nat.{_-_, _≤_}
 use mathlib.Core.Path.{_≡_, refl}

@@ -8,8 +8,7 @@ use borrow.Author.Tests.{not-true, not-false}
 use lib.Dec.{T}
 use lib.Ieee.{binary64, lt, le}
 use lib.Ieee.Fits.{sub-fits}
-use Rattle.ieee.specs.Magnitude.{absOf}
-use Rattle.linear.specs.Vectors.{maxAbsTo}
+use Rattle.ieee.specs.Magnitude.{absOf, maxAbsTo}
 use Rattle.columns.specs.Columns.{scaledAt}
 use Rattle.columns.specs.Kernels.{lessAt}
 use Rattle.columns.proofs.Scaled.{scaled-own, scaled-under}

@@ -1,7 +1,7 @@
 -- `direction::move_free` meets its contract: after p turns the first p places are moved; a turn stores, or the place is right already.
-use Rattle.direction.proofs.Turning.{minus-one, skip}
+use Rattle.ieee.proofs.Magnitudes.{minus-one}
+use Rattle.seq.proofs.Filling.{skip, Filled, start, turn, still, whole}
 use borrow.Author.Tests.{ne-eqb, eq-eqb}
-use Rattle.seq.proofs.Filling.{Filled, start, turn, still, whole}
 use Rattle.direction.specs.Step.{moved, movedAt}
 use borrow.Author.Needs.{needs}
 use Prim.Native.Nat.{_-_}

@@ -1,6 +1,5 @@
 -- `direction::turn_if` meets its contract: after i turns the first i places are turned; a turn stores, or the place is right already.
-use Rattle.seq.proofs.Filling.{Filled, start, turn, still, whole}
-use Rattle.direction.proofs.Turning.{skip}
+use Rattle.seq.proofs.Filling.{Filled, start, turn, still, whole, skip}
 use Rattle.direction.specs.Direction.{turned, turnedAt}
 use borrow.Author.Needs.{needs}
 use Prim.Native.Nat.{_-_}

@@ -1,7 +1,6 @@
 -- `direction::zero_frozen` meets its contract: after p turns the first p places are zeroed where they are not free; a turn stores, or the place is right already.
 use borrow.Author.Tests.{ne-eqb, eq-eqb}
-use Rattle.seq.proofs.Filling.{Filled, start, turn, whole}
-use Rattle.direction.proofs.Turning.{skip}
+use Rattle.seq.proofs.Filling.{Filled, start, turn, whole, skip}
 use Rattle.direction.specs.Direction.{zeroed, zeroedAt}
 use borrow.Author.Needs.{needs}
 use Prim.Native.Nat.{_-_}

@@ -2,7 +2,7 @@
 use Rattle.discrepancy.proofs.Fronts.{front-few, filled-back, filled-long}
 use lib.Seq.{length-take-le}
 use Rattle.discrepancy.proofs.OwnColumns.{own-asked, own-left}
-use Rattle.direction.specs.Constants.{one}
+use Rattle.ieee.specs.Constants.{one}
 use borrow.Author.Needs.{needs}
 use Prim.Native.Nat.{ℕ}
 use mathlib.Core.Path.{sym, _∙_}

@@ -10,7 +10,7 @@ use lib.Ieee.{neg, ofBits, lt}
 use lib.ListN.{length}
 use Rattle.seq.specs.Keep.{count}
 use Rattle.seq.specs.Sums.{plusZero, at}
-use Rattle.weights.proofs.Counting.{counts, passes}
+use Rattle.seq.proofs.Keeping.{counts, passes}
 use Rattle.doubling.proofs.sigma_of.Statement.{statement}
 use Rattle.doubling.proofs.sigma_of.Tie as tie
 

@@ -1,7 +1,7 @@
 -- `faults::all_finite` meets its contract: after j turns it says whether the first j weights are finite.
 use lib.Ieee.Scale.{finite}
 use Rattle.seq.specs.Sums.{at}
-use Rattle.limits.specs.Limits.{allTo}
+use Rattle.seq.specs.Keep.{allTo}
 use borrow.Author.Needs.{needs}
 use Prim.Native.Nat.{_-_, _≤_}
 use mathlib.Core.Path.{_≡_, refl}

@@ -1,6 +1,6 @@
 -- `fields::is_bits` meets its contract: after k turns it says whether the first k bytes are digits of base 16.
 use mathlib.Core.Bool.{_||_}
-use Rattle.limits.specs.Limits.{allTo}
+use Rattle.seq.specs.Keep.{allTo}
 use Rattle.fields.specs.Bytes.{byteAt}
 use Rattle.fields.specs.Digits.{isDigit, isLetter}
 use Rattle.fields.specs.Fields.{isBits}

@@ -1,6 +1,6 @@
 -- `fields::spells` meets its contract: after k turns it says whether the first k bytes are the word's.
 use lib.Dec.{eqb}
-use Rattle.limits.specs.Limits.{allTo}
+use Rattle.seq.specs.Keep.{allTo}
 use Rattle.fields.specs.Bytes.{byteAt, spelled}
 use borrow.Author.Needs.{needs}
 use Prim.Native.Nat.{_+_, _-_, _≤_}

@@ -1,5 +1,5 @@
 -- `form::are_entries` meets its contract: after k turns it says whether the first k places hold an entry each, and every place is small enough.
-use Rattle.limits.specs.Limits.{allTo}
+use Rattle.seq.specs.Keep.{allTo}
 use Rattle.form.specs.Form.{isEntry}
 use borrow.Author.Needs.{needs}
 use Prim.Native.Nat.{_+_, _*_, _-_, _≤_}

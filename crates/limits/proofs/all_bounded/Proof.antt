@@ -2,7 +2,7 @@
 use lib.Ieee.{le}
 use Rattle.seq.specs.Sums.{at}
 use Rattle.ieee.specs.Magnitude.{absOf}
-use Rattle.limits.specs.Limits.{allTo}
+use Rattle.seq.specs.Keep.{allTo}
 use borrow.Author.Needs.{needs}
 use Prim.Native.Nat.{_-_, _≤_}
 use mathlib.Core.Path.{_≡_, refl}

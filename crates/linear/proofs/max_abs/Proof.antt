@@ -1,6 +1,6 @@
 -- `linear::max_abs` meets its contract: before each turn it is the largest magnitude of the first i, those that were passed over included.
 use Rattle.seq.specs.Sums.{at}
-use Rattle.linear.specs.Vectors.{maxAbsTo}
+use Rattle.ieee.specs.Magnitude.{maxAbsTo}
 use Rattle.linear.proofs.Larger.{max-more, max-passed}
 use borrow.Author.Needs.{needs}
 use Prim.Native.Nat.{_-_, _+_, _≤_}

@@ -1,6 +1,6 @@
 -- `margins::change_of` meets its contract: after a turn the largest is that of the rows up to the block's end.
 use lib.Seq.{length-take-le, length-front}
-use Rattle.linear.specs.Vectors.{maxAbsTo}
+use Rattle.ieee.specs.Magnitude.{maxAbsTo}
 use Rattle.limits.specs.Matrix.{columnsOf}
 use Rattle.margins.specs.Margins.{changeTo, maxChange}
 use Rattle.margins.proofs.Stretches.{some-rows, max-block, front-back, front-long}

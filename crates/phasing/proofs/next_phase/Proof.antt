@@ -1,7 +1,7 @@
 -- `phasing::next_phase` meets its contract: the places are those that `keep` gives, and the two arms are the two ways of `phased`.
 use lib.Seq.{length-take-le}
 use Rattle.seq.specs.Keep.{keep}
-use Rattle.order.specs.Order.{isSet}
+use Rattle.seq.specs.Marks.{isSet}
 use Rattle.entries.specs.Entries.{entryOf}
 use Rattle.phasing.proofs.Inside.{places-below, places-few, phase-goes, phase-rounds}
 use borrow.Author.Needs.{needs}

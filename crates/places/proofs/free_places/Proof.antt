@@ -2,7 +2,7 @@
 use Rattle.seq.proofs.Keeping.{none, push, keeps, skips}
 use borrow.Author.Tests.{eq-eqb, ne-eqb}
 use Rattle.seq.specs.Keep.{keep, Pushed}
-use Rattle.order.specs.Order.{isSet}
+use Rattle.seq.specs.Marks.{isSet}
 use borrow.Author.Needs.{needs}
 use Prim.Native.Nat.{_-_, _≤_}
 use mathlib.Core.Path.{_≡_, refl}

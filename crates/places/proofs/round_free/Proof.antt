@@ -1,8 +1,7 @@
 -- `places::round_free` meets its contract: a loop that fills; each arm of the choice gives what `roundedAt` says, and a frozen coordinate stays.
 use Rattle.places.proofs.Rounding.{round-up, round-down}
 use borrow.Author.Tests.{ne-eqb}
-use Rattle.direction.proofs.Turning.{skip}
-use Rattle.seq.proofs.Filling.{Filled, start, whole}
+use Rattle.seq.proofs.Filling.{skip, Filled, start, whole}
 use Rattle.places.specs.Places.{roundedAt}
 use borrow.Author.Needs.{needs}
 use Prim.Native.Nat.{_-_}

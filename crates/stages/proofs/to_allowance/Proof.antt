@@ -4,7 +4,7 @@ use mathlib.Core.Bool.{false}
 use Rattle.limits.specs.Matrix.{columnsOf}
 use Rattle.weights.specs.Weights.{nonzeros}
 use Rattle.rules.specs.declared.Rule.the-variants.{Within}
-use Rattle.rules.proofs.Choosing.{never}
+use Rattle.seq.proofs.Choosing.{never}
 use Rattle.stages.proofs.Passing.{falling}
 use Rattle.halve.proofs.Calls.{ready-still}
 use Rattle.stages.proofs.Following.{OnPath, closes, on-start, opens, allowance-met, allowance-broke, allowance-left, allowance-on, allowance-fewer, allowance-goes, allowance-last, more-taken}

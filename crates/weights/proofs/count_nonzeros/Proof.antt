@@ -7,7 +7,7 @@ use native.Mathlib.Omega.{arith}
 use lib.ListN.{length}
 use Rattle.seq.specs.Keep.{count}
 use Rattle.weights.specs.Weights.{isOn}
-use Rattle.weights.proofs.Counting.{counts, passes}
+use Rattle.seq.proofs.Keeping.{counts, passes}
 use Rattle.weights.proofs.count_nonzeros.Statement.{statement}
 use Rattle.weights.proofs.count_nonzeros.Tie as tie
 

@@ -4,8 +4,8 @@ use mathlib.Core.Path.{_≡_, refl}
 use mathlib.Core.Bool.{Bool, true}
 use native.Mathlib.Decide.{decLt}
 use native.Mathlib.Omega.{arith}
-use Rattle.limits.specs.Limits.{allTo}
-use Rattle.fields.proofs.Values.{both}
+use Rattle.seq.specs.Keep.{allTo}
+use Rattle.seq.proofs.Choosing.{both}
 
 pub every-at : (f : ℕ → Bool) (k j : ℕ) → allTo f k ≡ true → j < k → f j ≡ true
 unfolding allTo

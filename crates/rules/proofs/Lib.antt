@@ -1,2 +1,0 @@
--- The laws of tests.
-pub mod Choosing

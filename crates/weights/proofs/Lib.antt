@@ -1,2 +1,0 @@
--- The laws of counts.
-pub mod Counting
