@@ -1,24 +1,21 @@
 -- What the functions of a pass hand to each other, from what each ensures: the rest of the ranking, and the pass from its two halvings and the division.
 use Prim.Native.Nat.{ℕ, _-_, _≤_, _<_}
 use mathlib.Core.Path.{_≡_, ap, _∙_}
-use mathlib.Core.Bool.{Bool}
 use mathlib.Core.List.{List}
 use native.Mathlib.Omega.{arith}
 use lib.ListN.{length, getD, take, drop, length-drop}
 use lib.Seq.{take-all}
 use lib.Ieee.{Float}
-use Rattle.seq.specs.Choice.{pick}
 use Rattle.seq.specs.Sums.{plusZero, at}
 use Rattle.seq.specs.Indices.{Below}
 use Rattle.seq.proofs.Keeping.{keep-good, count-short}
 use Rattle.ieee.specs.Magnitude.{absOf}
-use Rattle.weights.specs.Weights.{isOn, nonzeros, l1Of, sound, normalized}
+use Rattle.weights.specs.Weights.{isOn, nonzeros, normalized}
+use Rattle.seq.proofs.Keeping.{count-short}
 use Rattle.ranking.specs.Ranking.{support, ranked, keptCount, restOf}
 use Rattle.halve.specs.Halve.{halvedOnce}
 use Rattle.halve.specs.Handed.{halvesOf}
 use Rattle.halving.specs.Halving.{halvedTwice, passOf}
-use Rattle.halving.specs.Halves.{PassHolds}
-use Rattle.halving.specs.declared.Halves.{Halves}
 use Rattle.halving.proofs.Rest.{length-ranked, length-rest, rest-some, rest-on}
 
 pub support-below : (w : List Float) (some : List ℕ) → some ≡ support w → Below some (length w)
@@ -45,17 +42,14 @@ kept-within w order kept e k h = let long : length order ≡ nonzeros w = ap len
 
 -- ---- the pass
 
-pub pass-holds : (u : ℕ → ℕ → Float) (n : ℕ) (w v t out : List Float) (rest : List ℕ) (ω : Float) (a b c : ℕ) (g : Bool) (r : Halves)
+pub pass-holds : (u : ℕ → ℕ → Float) (n : ℕ) (w v t out : List Float) (rest : List ℕ) (ω : Float) (a b c : ℕ)
     → rest ≡ restOf w → ω ≡ absOf (at w (getD rest 0 0))
     → halvesOf v b ≡ halvedOnce plusZero u n ω rest (halvesOf w a)
     → halvesOf t c ≡ halvedOnce plusZero u n ω rest (halvesOf v b)
-    → g ≡ sound (l1Of plusZero t) → out ≡ pick g (normalized plusZero t) t → r .good ≡ g → r .rng .state ≡ c
-    → PassHolds (passOf plusZero u n (halvesOf w a)) r out
+    → out ≡ normalized plusZero t
+    → halvesOf out c ≡ passOf plusZero u n (halvesOf w a)
 unfolding passOf halvedTwice
-pass-holds u n w v t out rest ω a b c g r er eo e1 e2 eg ew rg rs =
-    let twice : halvesOf t c ≡ halvedTwice plusZero u n (halvesOf w a) = e2 ∙ ap (halvedOnce plusZero u n ω rest) e1 ∙ rw (eo, er) in
-    record {
-      good = rw (← twice) (rg ∙ eg);
-      rng = rw (← twice) rs;
-      weights = rw (← twice) (λ h. ew ∙ rw (eg ∙ h));
-    }
+pass-holds u n w v t out rest ω a b c is-rest is-omega first second divided =
+    let twice : halvesOf t c ≡ halvedTwice plusZero u n (halvesOf w a) =
+    second ∙ ap (halvedOnce plusZero u n ω rest) first ∙ rw (is-omega, is-rest) in
+    rw (← twice) (ap (λ (v : List Float). halvesOf v c) divided)

@@ -37,7 +37,7 @@ use Rattle.halving.proofs.Rest.{length-ranked, ranked-on, length-rest, 
 use Rattle.halving.proofs.Fates.{Among, Fate, untouched, touched, coloursOf, fate-once}
 use Rattle.halving.proofs.Minority.{lone}
 use Rattle.halving.proofs.Zeros.{zero-over-is, off-zero, plus-zero-off, sound-above, sound-finite}
-use Rattle.halving.proofs.Fewer.{never, first, second, sum, long-first, long-second, length-pass, pass-at, pass-sound, off-stays, pass-off, whole-rest, l1-is, heaviest-stays, pass-good}
+use Rattle.halving.proofs.Fewer.{never, first, second, sum, long-first, long-second, length-pass, pass-at, off-stays, pass-off, whole-rest, l1-is, heaviest-stays, sum-sound}
 use Rattle.halving.proofs.Holding.{has-among, has-those}
 use Rattle.halving.proofs.Quarter.{half-left}
 use Rattle.halving.proofs.Heaviest.{ranked-has, ranked-largest, one-largest}
@@ -191,8 +191,8 @@ module _ (u : ℕ → ℕ → Float) (n : ℕ) (h : Halved) (some : 2 ≤ nonzer
     abbrev after : List Float
     after = passOf plusZero u n h .w
 
-    sound-sum : sound (sum plusZero u n h) ≡ true
-    sound-sum = pass-sound plusZero u n h (pass-good u n h some normal short)
+    sound-here : sound (sum plusZero u n h) ≡ true
+    sound-here = sum-sound u n h some normal short
 
     top-on : isOn (h .w) (getD (ranked (h .w)) 0 0) ≡ true
     top-on = ranked-on (h .w) 0 (rw length-ranked (omega arith)) .on
@@ -212,7 +212,7 @@ module _ (u : ℕ → ℕ → Float) (n : ℕ) (h : Halved) (some : 2 ≤ nonzer
     other-none j l o d =
         pass-at plusZero u n h j l
         ∙ ap (λ v. div binary64 v (sum plusZero u n h)) (others-gone (normal .ends) j l o d ∙ nought-is)
-        ∙ zero-over-is binary64 false (pos 0) (sum plusZero u n h) (sound-above (sum plusZero u n h) sound-sum) (sound-finite (sum plusZero u n h) sound-sum)
+        ∙ zero-over-is binary64 false (pos 0) (sum plusZero u n h) (sound-above (sum plusZero u n h) sound-here) (sound-finite (sum plusZero u n h) sound-here)
         ∙ sym nought-is
 
     first-alone : Alone (h .w) after (top (normal .ends))
@@ -225,7 +225,7 @@ module _ (u : ℕ → ℕ → Float) (n : ℕ) (h : Halved) (some : 2 ≤ nonzer
       where
         go : (j : ℕ) → j < length (h .w) → (j ≡ top (normal .ends) → ⊥) → (t : Bool) → isOn (h .w) j ≡ t → isOn after j ≡ false
         go j l d true o = rw (other-none j l o d) plus-zero-off
-        go j l d false o = pass-off plusZero u n h (pass-good u n h some normal short) j l (rw (off-stays plusZero u n h j o) o)
+        go j l d false o = pass-off plusZero u n h sound-here j l (rw (off-stays plusZero u n h j o) o)
 
     -- C8: there is a largest weight, and the pass leaves it alone
     pub some-largest : Largest (h .w) (getD (ranked (h .w)) 0 0)

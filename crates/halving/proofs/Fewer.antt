@@ -75,10 +75,6 @@ module _ (z : Float) (u : ℕ → ℕ → Float) (n : ℕ) (h : Halved) where
   unfolding passOf halvedTwice normalized
   pass-at j l = getD-tab (overAt sum (second .w)) (length (second .w)) j nan (rw long-second l)
 
-  pub pass-sound : passOf z u n h .good ≡ true → sound sum ≡ true
-  unfolding passOf halvedTwice
-  pass-sound g = g
-
   moved-first : (j : ℕ) → Moved (h .w) (restOf (h .w)) j (at (first .w) j)
   moved-first = moved-once z u n (omegaOf (h .w)) (restOf (h .w)) h (rest-distinct (h .w)) (λ p l. rest-on (h .w) p l .below)
 
@@ -93,10 +89,10 @@ module _ (z : Float) (u : ℕ → ℕ → Float) (n : ℕ) (h : Halved) where
       let e : at (first .w) j ≡ at (h .w) j = zero-stays (h .w) (restOf (h .w)) j (at (first .w) j) o (moved-first j) in
       after-zero j (rw e o) ∙ e
 
-  module _ (good : passOf z u n h .good ≡ true) where
+  module _ (good : sound sum ≡ true) where
     -- what is zero before the division is zero after it
     pub pass-off : (j : ℕ) → j < length (h .w) → isOn (second .w) j ≡ false → isOn (passOf z u n h .w) j ≡ false
-    pass-off j l o = rw (pass-at j l) (off-over (at (second .w) j) sum o (pass-sound good))
+    pass-off j l o = rw (pass-at j l) (off-over (at (second .w) j) sum o good)
 
     -- a weight that is not 0 after the pass was not before
     pub pass-on : (j : ℕ) → j < length (h .w) → isOn (passOf z u n h .w) j ≡ true → isOn (h .w) j ≡ true
@@ -147,7 +143,7 @@ module _ (z : Float) (u : ℕ → ℕ → Float) (n : ℕ) (h : Halved) where
             record { index = j; was = of-rest r whole-rest (lost .place) (lost .under); is = v ∙ put q same }
 
     -- a pass leaves strictly fewer
-    pub pass-fewer : passOf z u n h .good ≡ true → nonzeros (passOf z u n h .w) < nonzeros (h .w)
+    pub pass-fewer : sound sum ≡ true → nonzeros (passOf z u n h .w) < nonzeros (h .w)
     pass-fewer good =
         let g = one-gone in
         let off : isOn (first .w) (g .index) ≡ false = rw (g .is) plus-zero-off in
@@ -227,11 +223,9 @@ module _ (u : ℕ → ℕ → Float) (n : ℕ) (h : Halved) (some : 2 ≤ nonzer
     unfolding pass-step
     sum-positive = rw (l1-is (second plusZero u n h .w) (length (h .w)) (long-second plusZero u n h)) (step-sum normal few pass-step)
 
-    -- the sum of magnitudes after the pass is always sound
-    pub pass-good : passOf plusZero u n h .good ≡ true
-    unfolding passOf halvedTwice
-    pass-good =
-        positive-sound (sum plusZero u n h) (tests-of-positive sum-positive) (sum-positive .fin .ends)
+    -- what a pass divides by is above 0 and finite: entries are at most 1, two doublings make at most 4 of one, and one that is kept stays nonzero
+    pub sum-sound : sound (sum plusZero u n h) ≡ true
+    sum-sound = positive-sound (sum plusZero u n h) (tests-of-positive sum-positive) (sum-positive .fin .ends)
 
     -- the weights are normalised again
     pub pass-normal : Normal binary64 (length (h .w)) (at after)

@@ -16,7 +16,7 @@ use Rattle.seq.proofs.Keeping.{keep-good, length-keep}
 use Rattle.ieee.proofs.Counting.{count-le}
 use Rattle.coloring.proofs.Colours.{Coloured, colours}
 use Rattle.ieee.specs.Constants.{two}
-use Rattle.weights.specs.Weights.{isOn, nonzeros}
+use Rattle.weights.specs.Weights.{isOn, nonzeros, sound}
 use Rattle.ranking.specs.Ranking.{ranked, keptCount, restOf, omegaOf}
 use Rattle.halve.specs.Halve.{Halved, halvedOnce}
 use Rattle.doubling.specs.Doubling.{thoseTo, remaining, sigmaOf}
@@ -26,7 +26,7 @@ use Rattle.halving.proofs.Rest.{length-ranked, length-rest, rest-on, re
 use Rattle.halving.proofs.Fates.{Among, Fate, untouched, touched, coloursOf, fate-once, moved-once}
 use Rattle.halving.proofs.Minority.{at-most-half}
 use Rattle.halving.proofs.Zeros.{plus-zero-off}
-use Rattle.halving.proofs.Fewer.{never, true-of, zero-stays, first, second, long-first, long-second, length-pass, off-stays, pass-off, whole-rest}
+use Rattle.halving.proofs.Fewer.{never, true-of, zero-stays, first, second, sum, long-first, long-second, length-pass, off-stays, pass-off, whole-rest}
 use Rattle.halving.proofs.Holding.{Has, has-among, has-at, has-left, has-right, has-those, length-those, no-longer}
 use Rattle.halving.proofs.Heaviest.{ranked-has}
 
@@ -122,7 +122,8 @@ module _ (z : Float) (u : ℕ → ℕ → Float) (n : ℕ) (h : Halved) where
       omega (arith, a, b, c, k, f)
 
   -- what a pass leaves: what it keeps, and at most a quarter of the rest
-  pub pass-at-most : 2 ≤ nonzeros (h .w) → passOf z u n h .good ≡ true → nonzeros (passOf z u n h .w) ≤ keptCount (nonzeros (h .w)) + (nonzeros (h .w) - keptCount (nonzeros (h .w))) / 2 / 2
+  pub pass-at-most : 2 ≤ nonzeros (h .w) → sound (sum z u n h) ≡ true → nonzeros (passOf z u n h .w)
+      ≤ keptCount (nonzeros (h .w)) + (nonzeros (h .w) - keptCount (nonzeros (h .w))) / 2 / 2
   pass-at-most some good =
       let a = half-left z u n (omegaOf (h .w)) others h (rest-distinct (h .w)) (λ p l. rest-on (h .w) p l .below) in
       let b = half-left z u n (omegaOf (h .w)) others (first z u n h) (rest-distinct (h .w)) (λ p l. rw (long-first z u n h) (rest-on (h .w) p l .below)) in

@@ -83,4 +83,4 @@ module _ (u : ℕ → ℕ → Float) (n : ℕ) where
 
   pub pass-same : (h : Halved) → passOf minusZero u n h ≡ passOf plusZero u n h
   unfolding passOf
-  pass-same h = rw (twice-same h, normalized-same (halvedTwice plusZero u n h .w), sound-same (halvedTwice plusZero u n h .w))
+  pass-same h = rw (twice-same h, normalized-same (halvedTwice plusZero u n h .w))

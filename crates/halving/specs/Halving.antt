@@ -1,10 +1,9 @@
 -- A pass: the rest is coloured and halved twice, and the weights are divided by their sum of magnitudes.
 -- A matrix is a function of the column and the row; it has n rows. z is what a sum starts from.
 use Prim.Native.Nat.{ℕ}
-use mathlib.Core.Bool.{Bool}
 use mathlib.Core.List.{List}
 use lib.Ieee.{Float}
-use Rattle.weights.specs.Weights.{l1Of, sound, normalized}
+use Rattle.weights.specs.Weights.{normalized}
 use Rattle.ranking.specs.Ranking.{restOf, omegaOf}
 use Rattle.halve.specs.Halve.{Halved, halvedOnce}
 
@@ -15,13 +14,8 @@ halvedTwice z u n h =
     let omega : Float = omegaOf (h .w) in
     halvedOnce z u n omega rest (halvedOnce z u n omega rest h)
 
--- the weights after a pass, the generator, and whether the sum that they were divided by was sound
-pub record Passed : Type 0 where
-  pub w : List Float
-  pub rng : ℕ
-  pub good : Bool
-
-unfoldable pub passOf : Float → (ℕ → ℕ → Float) → ℕ → Halved → Passed
+-- and divided by their sum of magnitudes
+unfoldable pub passOf : Float → (ℕ → ℕ → Float) → ℕ → Halved → Halved
 passOf z u n h =
     let t : Halved = halvedTwice z u n h in
-    record { w = normalized z (t .w); rng = t .rng; good = sound (l1Of z (t .w)) }
+    record { w = normalized z (t .w); rng = t .rng }

@@ -1,4 +1,3 @@
 -- One pass of the thinning, and what it leaves of few weights.
 pub mod Halving
-pub mod Halves
 pub mod Alone

@@ -25,7 +25,8 @@ use Rattle.stages.specs.Stages.{stageOf}
 use Rattle.stages.specs.Stopping.{rests, stops}
 use Rattle.rules.specs.Rules.{ruleFault}
 use Rattle.faults.specs.Faults.{sizeFault, valueFault, jobFault}
-use Rattle.sparsification.specs.Answers.{refusal, answerAt, Thinned}
+use Rattle.sparsification.specs.Answers.{refusal, Thinned}
+use Rattle.sparsification.specs.Thinning.{answerAt}
 use Rattle.sparsification.specs.declared.Answer.{Answer}
 use Rattle.rules.specs.declared.Cap.the-variants.{Absent, AtMost}
 use Rattle.rules.specs.declared.Rule.{Rule}
@@ -38,7 +39,7 @@ use Rattle.stages.proofs.Halting.{FirstStop, few-rests}
 use Rattle.sparsification.proofs.Accepting.{values-good}
 use Rattle.stages.proofs.Passing.{normal-start}
 use Rattle.sparsification.proofs.DemandThree.{Doubles}
-use Rattle.sparsification.proofs.Settled.{stage-alone, first-sound, settled}
+use Rattle.sparsification.proofs.Settled.{stage-alone, settled}
 use Rattle.knobthistle.specs.Cases.{table, hold, half, underHalf, quarter, threeQuarters, one, minusOne, three, minusThree, four, smallest, matrix, by, any, thins, refuses, refusesRule, draws, uniform, Room, called, holds}
 
 abbrev columns : ℕ → ℕ → Float
@@ -83,9 +84,6 @@ module _ (seed : ℕ) (a b : Float) (normal : Normal binary64 2 (at (a ∷ b ∷
   alone : (k : ℕ) → Largest (a ∷ b ∷ []) k → Alone (a ∷ b ∷ []) next k
   unfolding stageOf
   alone = stage-alone columns 2 (a ∷ b ∷ []) seed normal (omega arith) 0 (λ j l. absurd (omega arith)) (omega (arith, entries)) (omega (arith, entries))
-
-  next-good : stageOf plusZero columns 2 (a ∷ b ∷ []) seed 1 .good ≡ true
-  next-good = first-sound columns 2 (a ∷ b ∷ []) seed normal (omega arith) (omega (arith, entries))
 
   first-left : isOn (a ∷ b ∷ []) 1 ≡ true → Largest (a ∷ b ∷ []) 0 → next ≡ signumOf a ∷ plusZero ∷ []
   first-left o p = let l = alone 0 p in pair next (signumOf a) plusZero (l .long) (l .there) (l .gone 1 (omega arith) o (λ e. omega arith))
@@ -166,13 +164,10 @@ module _ (seed : ℕ) (normal : Normal binary64 2 (at shares)) where
   unfolding heavier aboveOf ofBits ne lt
   next-13 = second-left seed quarter threeQuarters normal both-13 refl (largest-second quarter threeQuarters refl refl)
 
-  good-13 : stageOf plusZero columns 2 shares seed 1 .good ≡ true
-  good-13 = next-good seed quarter threeQuarters normal both-13
-
   -- stage 1 measures 0.5
   goes-1 : stops plusZero columns 2 shares seed (Within half Absent) 0 ≡ false
   unfolding count ofBits ne maxChange changeTo maxAbsTo largerOf isNan lt le sub mul add
-  goes-1 = rw (stage-0 shares seed, next-13, good-13)
+  goes-1 = rw (stage-0 shares seed, next-13)
 
   stops-1 : stops plusZero columns 2 shares seed (Within half Absent) 1 ≡ true
   unfolding count ofBits ne
@@ -181,12 +176,12 @@ module _ (seed : ℕ) (normal : Normal binary64 2 (at shares)) where
   -- which is above the allowance
   stops-2 : stops plusZero columns 2 shares seed (Within underHalf Absent) 0 ≡ true
   unfolding count ofBits ne maxChange changeTo maxAbsTo largerOf isNan lt le sub mul add
-  stops-2 = rw (stage-0 shares seed, next-13, good-13)
+  stops-2 = rw (stage-0 shares seed, next-13)
 
   -- the cap is not met before stage 1
   goes-3 : stops plusZero columns 2 shares seed (Within plusZero (AtMost 1)) 0 ≡ false
   unfolding count ofBits ne
-  goes-3 = rw (stage-0 shares seed, good-13)
+  goes-3 = rw (stage-0 shares seed)
 
   stops-3 : stops plusZero columns 2 shares seed (Within plusZero (AtMost 1)) 1 ≡ true
   unfolding count ofBits ne
@@ -241,7 +236,7 @@ module _ (seed : ℕ) (normal : Normal binary64 2 (at halves)) where
 
   goes-4 : stops plusZero columns 2 halves seed (Target 1) 0 ≡ false
   unfolding count ofBits ne
-  goes-4 = rw (stage-0 halves seed, next-good seed half half normal both-11)
+  goes-4 = rw (stage-0 halves seed)
 
   stops-4 : stops plusZero columns 2 halves seed (Target 1) 1 ≡ true
   unfolding count ofBits ne
@@ -282,7 +277,7 @@ module _ (seed : ℕ) (normal : Normal binary64 2 (at signed)) where
 
   goes-5 : stops plusZero columns 2 signed seed (Target 1) 0 ≡ false
   unfolding count ofBits ne
-  goes-5 = rw (stage-0 signed seed, next-good seed minusThreeQuarters quarter normal both-31)
+  goes-5 = rw (stage-0 signed seed)
 
   stops-5 : stops plusZero columns 2 signed seed (Target 1) 1 ≡ true
   unfolding count ofBits ne

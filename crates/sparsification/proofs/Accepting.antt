@@ -1,4 +1,4 @@
--- What an accepted job has: an answer's number is 0 exactly where no fault was found before or after, and then sizes, values and rule are as asked for.
+-- What an accepted job has: an answer's number is 0 exactly where no fault was found, and then sizes, values and rule are as asked for.
 use Prim.Native.Nat.{ℕ, zero, suc, _*_, _≤_, _<_}
 use mathlib.Core.Path.{_≡_, refl, sym, ap, _∙_}
 use mathlib.Core.Bool.{Bool, true, false, not, _||_}
@@ -18,7 +18,7 @@ use Rattle.ieee.specs.Constants.{one}
 use Rattle.weights.specs.Weights.{nonzeros, normalized, l1Of, sound}
 use Rattle.limits.specs.Matrix.{columnsOf}
 use Rattle.stages.specs.Stages.{movedBy}
-use Rattle.sparsification.specs.Answers.{refusal, answerOf, lateFor, stopFor, returned, Thinned}
+use Rattle.sparsification.specs.Answers.{refusal, answerOf, stopFor, returned, Thinned}
 use Rattle.rules.specs.Rules.{ruleFault}
 use Rattle.faults.specs.Faults.{sizeFault, valueFault, jobFault}
 use Rattle.sparsification.specs.declared.Answer.{Answer}
@@ -31,33 +31,29 @@ no-fault zero b h = (refl, h)
 no-fault (suc a) b h = absurd (let g : suc a ≡ 0 = rw (eqb·suc-zero a) at h in omega arith)
 
 -- a refusal's number is not 0
-answered : (fault : ℕ) (a : Answer) → pick (eqb fault 0) a (refusal fault) .number ≡ 0 → (fault ≡ 0) × (a .number ≡ 0)
-answered zero a h = (refl, h)
+answered : (fault : ℕ) (a : Answer) → pick (eqb fault 0) a (refusal fault) .number ≡ 0 → fault ≡ 0
+answered zero a h = refl
 answered (suc fault) a h = absurd (let g : suc fault ≡ 0 = rw (eqb·suc-zero fault) at h in omega arith)
 
-answered-late : (late stage k : ℕ) (x : Float) → pick (eqb late 0) (record { number = 0; stage = stage; nonzeros = k; change = x }) (refusal late) .number ≡ 0 → late ≡ 0
-answered-late zero stage k x h = refl
-answered-late (suc late) stage k x h = absurd (let g : suc late ≡ 0 = rw (eqb·suc-zero late) at h in omega arith)
-
-module _ {rule : Rule} {seed : ℕ} {u : List Float} {m n : ℕ} {w output numbers : List Float} {indices : List ℕ} {r : Answer} {output' numbers' : List Float} {indices' : List ℕ}
+module _ {rule : Rule} {seed : ℕ} {u : List Float} {m n : ℕ} {w output numbers : List Float} {indices : List ℕ}
+    {r : Answer} {output' numbers' : List Float} {indices' : List ℕ}
     (job : Thinned rule seed u m n w output numbers indices r output' numbers' indices') where
   -- number 0 is given only where there is no fault
-  pub number-none : r .number ≡ 0 → (jobFault rule u m n w (length output) (length numbers) (length indices) ≡ 0) × (lateFor u n w seed rule ≡ 0)
-  unfolding answerOf
+  pub number-none : r .number ≡ 0 → jobFault rule u m n w (length output) (length numbers) (length indices) ≡ 0
   number-none h =
-      let a = answered (jobFault rule u m n w (length output) (length numbers) (length indices)) (answerOf u n w seed rule) (sym (ap (λ (x : Answer). x .number) (job .answers)) ∙ h) in
-      (a .0, answered-late (lateFor u n w seed rule) _ _ _ (a .1))
+      answered (jobFault rule u m n w (length output) (length numbers) (length indices)) (answerOf u n w seed rule)
+      (sym (ap (λ (x : Answer). x .number) (job .answers)) ∙ h)
 
   -- and wherever there is none, with the stage
   pub answer-there : jobFault rule u m n w (length output) (length numbers) (length indices) ≡ 0 → r ≡ answerOf u n w seed rule
   answer-there f = job .answers ∙ ap (λ (x : ℕ). pick (eqb x 0) (answerOf u n w seed rule) (refusal x)) f
 
-  pub number-there : jobFault rule u m n w (length output) (length numbers) (length indices) ≡ 0 → lateFor u n w seed rule ≡ 0 → r .number ≡ 0
+  pub number-there : jobFault rule u m n w (length output) (length numbers) (length indices) ≡ 0 → r .number ≡ 0
   unfolding answerOf
-  number-there f h = rw (answer-there f) (rw h)
+  number-there f = rw (answer-there f)
 
   -- the answer and the output then
-  pub answer-stage : jobFault rule u m n w (length output) (length numbers) (length indices) ≡ 0 → lateFor u n w seed rule ≡ 0
+  pub answer-stage : jobFault rule u m n w (length output) (length numbers) (length indices) ≡ 0
       → r ≡ record {
         number = 0;
         stage = stopFor u n w seed rule;
@@ -65,7 +61,7 @@ module _ {rule : Rule} {seed : ℕ} {u : List Float} {m n : ℕ} {w output numbe
         change = movedBy (columnsOf u n) n (normalized plusZero w) (returned u n w seed rule);
       }
   unfolding answerOf
-  answer-stage f h = answer-there f ∙ rw h
+  answer-stage f = answer-there f
 
   pub output-stage : r .number ≡ 0 → output' ≡ returned u n w seed rule .w
   output-stage h = job .writes ∙ rw h
@@ -157,3 +153,11 @@ accepted rule u m n w output numbers indices h =
     let a = no-fault (ruleFault rule) (orElse (sizeFault m n (length u) (length w) output numbers indices) (valueFault u w)) h in
     let b = no-fault (sizeFault m n (length u) (length w) output numbers indices) (valueFault u w) (a .1) in
     record { ruled = a .0; sized = sizes-good m n (length u) (length w) output numbers indices (b .0); valued = values-good u w (b .1) }
+
+-- and its values are without a fault
+pub values-fine : (rule : Rule) (u : List Float) (m n : ℕ) (w : List Float) (output numbers indices : ℕ) → jobFault rule u m n w output numbers indices ≡ 0
+    → valueFault u w ≡ 0
+unfolding jobFault
+values-fine rule u m n w output numbers indices h =
+    no-fault (sizeFault m n (length u) (length w) output numbers indices) (valueFault u w)
+    (no-fault (ruleFault rule) (orElse (sizeFault m n (length u) (length w) output numbers indices) (valueFault u w)) h .1) .1

@@ -12,7 +12,7 @@ use Rattle.limits.specs.Matrix.{columnsOf}
 use Rattle.ieee.proofs.Normalised.{Normal}
 use Rattle.weights.specs.Weights.{nonzeros, normalized}
 use Rattle.halve.specs.Handed.{halvesOf}
-use Rattle.halving.proofs.Fewer.{pass-good}
+use Rattle.halving.proofs.Fewer.{sum-sound}
 use Rattle.halving.proofs.Quarter.{pass-at-most}
 use Rattle.stages.specs.Stages.{stageOf}
 use Rattle.stages.specs.Stopping.{entriesAt, stops}
@@ -22,19 +22,20 @@ use Rattle.rules.specs.declared.Rule.the-variants.{Target}
 use Rattle.stages.proofs.Halting.{FirstStop}
 use Rattle.sparsification.proofs.Accepting.{accepted, number-none}
 use Rattle.sparsification.proofs.DemandThree.{Doubles, start-normal, start-few}
-use Rattle.sparsification.proofs.Settled.{first-sound, settled}
+use Rattle.sparsification.proofs.Settled.{settled}
 
-module _ (u : ℕ → ℕ → Float) (n : ℕ) (start : List Float) (seed : ℕ) (normal : Normal binary64 (length start) (at start)) (short : length start ≤ 256) (many : nonzeros start ≡ 100) where
+module _ (u : ℕ → ℕ → Float) (n : ℕ) (start : List Float) (seed : ℕ)
+    (normal : Normal binary64 (length start) (at start)) (short : length start ≤ 256) (many : nonzeros start ≡ 100) where
   before : entriesAt plusZero u n start seed 0 ≡ 100
   unfolding stageOf
   before = many
 
   after : entriesAt plusZero u n start seed 1 ≤ 49
   unfolding stageOf
-  after = omega (arith, pass-at-most plusZero u n (halvesOf start seed) (omega arith) (pass-good u n (halvesOf start seed) (omega arith) normal short), many)
+  after = omega (arith, pass-at-most plusZero u n (halvesOf start seed) (omega arith) (sum-sound u n (halvesOf start seed) (omega arith) normal short), many)
 
   goes-on : stops plusZero u n start seed (Target 99) 0 ≡ false
-  goes-on = rw (before, first-sound u n start seed normal short (omega (arith, before)))
+  goes-on = rw before
 
   ends : stops plusZero u n start seed (Target 99) 1 ≡ true
   ends = rw (le-leb (entriesAt plusZero u n start seed 1) 99 (omega (arith, after)))
@@ -42,11 +43,13 @@ module _ (u : ℕ → ℕ → Float) (n : ℕ) (start : List Float) (seed : ℕ)
   first-pass : FirstStop plusZero u n start seed (Target 99) 1
   first-pass = record { there = ends; before = λ i l. let e : i ≡ 0 = omega arith in rw e goes-on }
 
-pub at-most-49 : {seed : ℕ} {u : List Float} {m n : ℕ} {w output numbers : List Float} {indices : List ℕ} {r : Answer} {output' numbers' : List Float} {indices' : List ℕ}
-    → Thinned (Target 99) seed u m n w output numbers indices r output' numbers' indices' → Doubles w → r .number ≡ 0 → nonzeros (normalized plusZero w) ≡ 100
+pub at-most-49 : {seed : ℕ} {u : List Float} {m n : ℕ} {w output numbers : List Float} {indices : List ℕ}
+    {r : Answer} {output' numbers' : List Float} {indices' : List ℕ}
+    → Thinned (Target 99) seed u m n w output numbers indices r output' numbers' indices' → Doubles w → r .number ≡ 0
+    → nonzeros (normalized plusZero w) ≡ 100
     → (r .stage ≡ 1) × (r .nonzeros ≤ 49)
 at-most-49 {seed} {u} {m} {n} {w} {output} {numbers} {indices} {r} job doubles zero many =
-    let f = number-none job zero .0 in
+    let f = number-none job zero in
     let a = accepted (Target 99) u m n w (length output) (length numbers) (length indices) f in
     let normal = start-normal doubles a in
     let short = start-few doubles a in

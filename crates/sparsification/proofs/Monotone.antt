@@ -2,7 +2,7 @@
 -- the earlier's. And the stage at which a rule stops keeps what the rule asks for.
 use Prim.Native.Nat.{ℕ, zero, suc, _+_, _-_, _≤_, _<_}
 use mathlib.Core.Path.{_≡_, refl, sym, _∙_}
-use mathlib.Core.Bool.{Bool, true, false, _&&_, _||_}
+use mathlib.Core.Bool.{Bool, true, false, _&&_}
 use mathlib.Core.List.{List}
 use native.Mathlib.Omega.{arith}
 use native.Mathlib.Decide.{decLt}
@@ -17,7 +17,7 @@ use Rattle.ieee.specs.Units.{isNum}
 use Rattle.ieee.proofs.Ranks.{le-transitive}
 use Rattle.stages.specs.Stages.{stageOf, movedBy}
 use Rattle.rules.specs.Rules.{meets, ruleFault, capFault}
-use Rattle.stages.specs.Stopping.{entriesAt, above, rests, breaks, exceeds, stops, stopOf, lateNumber}
+use Rattle.stages.specs.Stopping.{entriesAt, above, rests, exceeds, stops, stopOf}
 use Rattle.sparsification.specs.Demand.{asTight, allows}
 use Rattle.stages.specs.Among.{Among}
 use Rattle.rules.specs.declared.Cap.{Cap}
@@ -25,7 +25,7 @@ use Rattle.rules.specs.declared.Cap.the-variants.{Absent, AtMost}
 use Rattle.rules.specs.declared.Rule.{Rule}
 use Rattle.rules.specs.declared.Rule.the-variants.{Target, Within}
 use Rattle.seq.proofs.Choosing.{neither, one-holds, both, never, weaker-or, weaker-and, weaker-not, shown, holds}
-use Rattle.stages.proofs.Halting.{Falls, FirstStop, Goes, goes, stop-is-first}
+use Rattle.stages.proofs.Halting.{Falls, FirstStop, Leads, leads, stop-is-first}
 use Rattle.sparsification.proofs.Unmoved.{moved-fits, no-change}
 use Rattle.stages.proofs.Lengths.{length-stage}
 
@@ -109,9 +109,8 @@ module _ (z : Float) (u : ℕ → ℕ → Float) (n : ℕ) (start : List Float) 
 
   pub stops-sooner : (first second : Rule) (i : ℕ) → Double first → Double second → allows first second ≡ true → stops z u n start seed second i ≡ true → stops z u n start seed first i ≡ true
   stops-sooner first second i A B h =
-      weaker-or (rests z u n start seed second i) (breaks z u n start seed i || exceeds z u n start seed second i) (rests z u n start seed first i) (breaks z u n start seed i || exceeds z u n start seed first i)
-      (rests-sooner first second i A B h)
-      (weaker-or (breaks z u n start seed i) (exceeds z u n start seed second i) (breaks z u n start seed i) (exceeds z u n start seed first i) (λ y. y) (exceeds-sooner first second i A B h))
+      weaker-or (rests z u n start seed second i) (exceeds z u n start seed second i) (rests z u n start seed first i) (exceeds z u n start seed first i)
+      (rests-sooner first second i A B h) (exceeds-sooner first second i A B h)
 
   -- the second's first stop is no sooner
   pub no-sooner : (first second : Rule) (k l : ℕ) → Double first → Double second → allows first second ≡ true
@@ -124,48 +123,38 @@ module _ (z : Float) (u : ℕ → ℕ → Float) (n : ℕ) (start : List Float) 
 
   -- each pass up to where the job goes on leaves entries of before, with their signs
   abbrev pub Signed : Type 0
-  Signed = (i : ℕ) → ((j : ℕ) → j < suc i → Goes z u n start seed j) → Among (stageOf z u n start seed i .w) (stageOf z u n start seed (suc i) .w)
+  Signed = (i : ℕ) → Leads z u n start seed (suc i) → Among (stageOf z u n start seed i .w) (stageOf z u n start seed (suc i) .w)
 
-  pub among-stages : Signed → (i d : ℕ) → ((j : ℕ) → j < i + d → Goes z u n start seed j) → Among (stageOf z u n start seed i .w) (stageOf z u n start seed (i + d) .w)
+  pub among-stages : Signed → (i d : ℕ) → Leads z u n start seed (i + d) → Among (stageOf z u n start seed i .w) (stageOf z u n start seed (i + d) .w)
   among-stages signed i zero g = rw (let e : i + 0 ≡ i = omega arith in e) (among-self (stageOf z u n start seed i .w))
   among-stages signed i (suc d) g =
       rw (let e : i + suc d ≡ suc (i + d) = omega arith in e)
       (among-trans (length-stage z u n start seed (i + d) ∙ sym (length-stage z u n start seed i)) (among-stages signed i d (λ j l. g j (omega arith)))
       (signed (i + d) (λ j l. g j (omega arith))))
 
-  -- what the stage keeps at which a rule stops, where no pass broke
+  -- what the stage keeps at which a rule stops
   module _ (falls : Falls z u n start seed) where
     pub among-stops : Signed → (rule : Rule) (k : ℕ) → ruleFault rule ≡ 0 → k ≤ stopOf z u n start seed rule
         → Among (stageOf z u n start seed k .w) (stageOf z u n start seed (stopOf z u n start seed rule) .w)
     among-stops signed rule k f h =
         let l : ℕ = stopOf z u n start seed rule in
         let e : k + (l - k) ≡ l = omega arith in
-        rw e at (among-stages signed k (l - k) (λ j g. goes z u n start seed rule j f (stop-is-first z u n start seed falls rule f .before j (omega arith))))
-
-    -- it was not a broken pass
-    late-none : (rule : Rule) → ruleFault rule ≡ 0 → lateNumber z u n start seed rule ≡ 0
-        → (rests z u n start seed rule (stopOf z u n start seed rule) || exceeds z u n start seed rule (stopOf z u n start seed rule)) ≡ true
-    late-none rule f h =
-        let k : ℕ = stopOf z u n start seed rule in
-        go (rests z u n start seed rule k) (breaks z u n start seed k) (exceeds z u n start seed rule k) (stop-is-first z u n start seed falls rule f .there) h
-      where
-        go : (a b c : Bool) → (a || (b || c)) ≡ true → _≡_ {A = ℕ} (pick a 0 (pick b 10 0)) 0 → (a || c) ≡ true
-        go true b c e h = refl
-        go false true c e h = absurd (omega arith)
-        go false false c e h = e
+        rw e at (among-stages signed k (l - k) (λ j g. leads z u n start seed falls rule f j (omega arith)))
 
     -- at most so many nonzeros
-    pub target-kept : (t : ℕ) → ruleFault (Target t) ≡ 0 → lateNumber z u n start seed (Target t) ≡ 0 → leb (entriesAt z u n start seed (stopOf z u n start seed (Target t))) t ≡ true
-    target-kept t f h =
-        one-holds (rests z u n start seed (Target t) (stopOf z u n start seed (Target t))) false (late-none (Target t) f h) (λ e. e) (λ e g. never false g refl)
+    pub target-kept : (t : ℕ) → ruleFault (Target t) ≡ 0 → leb (entriesAt z u n start seed (stopOf z u n start seed (Target t))) t ≡ true
+    target-kept t f =
+        one-holds (rests z u n start seed (Target t) (stopOf z u n start seed (Target t))) false (stop-is-first z u n start seed falls (Target t) f .there)
+        (λ e. e) (λ e g. never false g refl)
 
     -- the cap
-    pub cap-kept : (a : Float) (c : ℕ) → ruleFault (Within a (AtMost c)) ≡ 0 → lateNumber z u n start seed (Within a (AtMost c)) ≡ 0
+    pub cap-kept : (a : Float) (c : ℕ) → ruleFault (Within a (AtMost c)) ≡ 0
         → leb (entriesAt z u n start seed (stopOf z u n start seed (Within a (AtMost c)))) c ≡ true
-    cap-kept a c f h =
+    cap-kept a c f =
         let k : ℕ = stopOf z u n start seed (Within a (AtMost c)) in
         let e : ℕ = entriesAt z u n start seed k in
-        one-holds (rests z u n start seed (Within a (AtMost c)) k) (exceeds z u n start seed (Within a (AtMost c)) k) (late-none (Within a (AtMost c)) f h)
+        one-holds (rests z u n start seed (Within a (AtMost c)) k) (exceeds z u n start seed (Within a (AtMost c)) k)
+        (stop-is-first z u n start seed falls (Within a (AtMost c)) f .there)
         (λ r. one-holds (leb e 1) (ltb 0 k && (above z u n start seed a k && leb e c)) r (λ y. le-leb e c (omega (arith, leb-true e 1 y, some (le plusZero a) f)))
         (λ y g. both (above z u n start seed a k) (leb e c) (both (ltb 0 k) (above z u n start seed a k && leb e c) g .1) .1))
         (λ r g. both (leb e c) (above z u n start seed a (suc k)) g .0)
@@ -186,6 +175,5 @@ module _ (z : Float) (u : ℕ → ℕ → Float) (n : ℕ) (start : List Float) 
         go : (k : ℕ) → FirstStop z u n start seed (Within a Absent) k → le (movedBy u n start (stageOf z u n start seed k)) a ≡ true
         go zero p = unfold stageOf in rw (no-change u n start h) (nonnegative (le plusZero a) f)
         go (suc k) p =
-            let e = neither (rests z u n start seed (Within a Absent) k) (breaks z u n start seed k || exceeds z u n start seed (Within a Absent) k) (p .before k (omega arith)) in
-            let g = neither (breaks z u n start seed k) (exceeds z u n start seed (Within a Absent) k) (e .1) in
-            not-false (le (movedBy u n start (stageOf z u n start seed (suc k))) a) (g .1)
+            let e = neither (rests z u n start seed (Within a Absent) k) (exceeds z u n start seed (Within a Absent) k) (p .before k (omega arith)) in
+            not-false (le (movedBy u n start (stageOf z u n start seed (suc k))) a) (e .1)

@@ -9,45 +9,41 @@ use Rattle.seq.specs.Sums.{plusZero, at}
 use Rattle.limits.specs.Matrix.{columnsOf}
 use Rattle.ieee.proofs.Normalised.{Normal}
 use Rattle.weights.specs.Weights.{normalized}
-use Rattle.halve.specs.Handed.{halvesOf}
 use Rattle.halving.specs.Alone.{Largest, Alone}
 use Rattle.halving.proofs.Few.{largest-alone}
-use Rattle.halving.proofs.Fewer.{pass-good}
 use Rattle.stages.specs.Stages.{stageOf}
 use Rattle.stages.specs.Stopping.{entriesAt}
 use Rattle.faults.specs.Faults.{jobFault}
-use Rattle.sparsification.specs.Answers.{Thinned, answerAt}
+use Rattle.sparsification.specs.Answers.{Thinned}
+use Rattle.sparsification.specs.Thinning.{answerAt}
 use Rattle.sparsification.specs.declared.Answer.{Answer}
 use Rattle.rules.specs.declared.Rule.{Rule}
-use Rattle.stages.proofs.Halting.{Goes, FirstStop, only, stop-is-first}
+use Rattle.stages.proofs.Halting.{Leads, FirstStop, only, stop-is-first}
 use Rattle.stages.proofs.Lengths.{length-stage}
 use Rattle.stages.proofs.Passing.{falling, normal-stage}
-use Rattle.sparsification.proofs.Accepting.{accepted, number-none, answer-stage, output-stage}
-use Rattle.sparsification.proofs.DemandThree.{Doubles, answered-with-none}
+use Rattle.sparsification.proofs.Accepting.{accepted, number-there, answer-stage, output-stage}
+use Rattle.sparsification.proofs.DemandThree.{Doubles, start-normal, start-few}
 
 module _ (u : ℕ → ℕ → Float) (n : ℕ) (start : List Float) (seed : ℕ) (normal : Normal binary64 (length start) (at start)) (short : length start ≤ 256) where
-  pub stage-alone : (i : ℕ) → ((j : ℕ) → j < i → Goes plusZero u n start seed j) → 2 ≤ entriesAt plusZero u n start seed i → entriesAt plusZero u n start seed i ≤ 4
+  pub stage-alone : (i : ℕ) → Leads plusZero u n start seed i → 2 ≤ entriesAt plusZero u n start seed i → entriesAt plusZero u n start seed i ≤ 4
       → (k : ℕ) → Largest (stageOf plusZero u n start seed i .w) k → Alone (stageOf plusZero u n start seed i .w) (stageOf plusZero u n start seed (suc i) .w) k
   unfolding stageOf
   stage-alone i g some few =
-      largest-alone u n (halvesOf (stageOf plusZero u n start seed i .w) (stageOf plusZero u n start seed i .rng)) some few (normal-stage u n start seed normal short i g)
+      largest-alone u n (stageOf plusZero u n start seed i) some few (normal-stage u n start seed normal short i g)
       (rw (length-stage plusZero u n start seed i) short)
 
-  -- the pass from stage 0 is sound
-  pub first-sound : 2 ≤ entriesAt plusZero u n start seed 0 → stageOf plusZero u n start seed 1 .good ≡ true
-  unfolding stageOf
-  first-sound some = pass-good u n (halvesOf start seed) some normal short
-
-module _ {rule : Rule} {seed : ℕ} {u : List Float} {m n : ℕ} {w output numbers : List Float} {indices : List ℕ} {r : Answer} {output' numbers' : List Float} {indices' : List ℕ}
-    (job : Thinned rule seed u m n w output numbers indices r output' numbers' indices') (doubles : Doubles w) (sound : jobFault rule u m n w (length output) (length numbers) (length indices) ≡ 0)
+module _ {rule : Rule} {seed : ℕ} {u : List Float} {m n : ℕ} {w output numbers : List Float} {indices : List ℕ}
+    {r : Answer} {output' numbers' : List Float} {indices' : List ℕ}
+    (job : Thinned rule seed u m n w output numbers indices r output' numbers' indices') (doubles : Doubles w)
+    (sound : jobFault rule u m n w (length output) (length numbers) (length indices) ≡ 0)
     (k : ℕ) (stop : FirstStop plusZero (columnsOf u n) n (normalized plusZero w) seed rule k) where
   pub settled : (r ≡ answerAt (columnsOf u n) n (normalized plusZero w) k (stageOf plusZero (columnsOf u n) n (normalized plusZero w) seed k .w))
       × (output' ≡ stageOf plusZero (columnsOf u n) n (normalized plusZero w) seed k .w)
   settled =
       let start : List Float = normalized plusZero w in
       let a = accepted rule u m n w (length output) (length numbers) (length indices) sound in
-      let zero = answered-with-none job doubles sound in
-      let e = only plusZero (columnsOf u n) n start seed (stop-is-first plusZero (columnsOf u n) n start seed (falling (columnsOf u n) n start seed) rule (a .ruled)) stop in (
-        answer-stage job sound (number-none job zero .1) ∙ ap (λ (i : ℕ). answerAt (columnsOf u n) n start i (stageOf plusZero (columnsOf u n) n start seed i .w)) e,
-        output-stage job zero ∙ ap (λ (i : ℕ). stageOf plusZero (columnsOf u n) n start seed i .w) e,
+      let falls = falling (columnsOf u n) n start seed (start-normal doubles a) (start-few doubles a) in
+      let e = only plusZero (columnsOf u n) n start seed (stop-is-first plusZero (columnsOf u n) n start seed falls rule (a .ruled)) stop in (
+        answer-stage job sound ∙ ap (λ (i : ℕ). answerAt (columnsOf u n) n start i (stageOf plusZero (columnsOf u n) n start seed i .w)) e,
+        output-stage job (number-there job sound) ∙ ap (λ (i : ℕ). stageOf plusZero (columnsOf u n) n start seed i .w) e,
       )

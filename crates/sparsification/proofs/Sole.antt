@@ -3,8 +3,11 @@ use Prim.Native.Nat.{ℕ}
 use mathlib.Core.Path.{_≡_, sym, ap, _∙_}
 use mathlib.Core.List.{List}
 use lib.Dec.{eqb}
+use lib.ListN.{length}
 use lib.Ieee.{Float}
 use Rattle.seq.specs.Choice.{pick}
+use Rattle.seq.specs.Lists.{repeated}
+use Rattle.seq.specs.Sums.{plusZero}
 use Rattle.sparsification.specs.Answers.{returned, Thinned}
 use Rattle.sparsification.specs.declared.Answer.{Answer}
 use Rattle.rules.specs.declared.Rule.{Rule}
@@ -20,11 +23,11 @@ pub sole : {rule : Rule} {seed : ℕ} {u : List Float} {m n : ℕ} {w output num
     → Thinned rule seed u m n w output numbers indices r output' numbers' indices'
     → Thinned rule seed u m n w output numbers indices s output'' numbers'' indices''
     → Same r s output' output'' numbers' numbers'' indices' indices''
-sole {rule} {seed} {u} {m} {n} {w} {output} p q =
+sole {rule} {seed} {u} {m} {n} {w} {output} {numbers} {indices} p q =
     let e = p .answers ∙ sym (q .answers) in
     record {
       answer = e;
       written = p .writes ∙ ap (λ (x : Answer). pick (eqb (x .number) 0) (returned u n w seed rule .w) output) e ∙ sym (q .writes);
-      floats = p .floats ∙ sym (q .floats);
-      words = p .words ∙ sym (q .words);
+      floats = p .floats ∙ ap (λ (x : Answer). pick (eqb (x .number) 0) (repeated plusZero (length numbers)) numbers) e ∙ sym (q .floats);
+      words = p .words ∙ ap (λ (x : Answer). pick (eqb (x .number) 0) (repeated 0 (length indices)) indices) e ∙ sym (q .words);
     }

@@ -1,4 +1,4 @@
--- What a sum starts from, +0.0 or -0.0, reaches no answer: every stage is the same, and so are the stage at which a job stops and whether a pass broke.
+-- What a sum starts from, +0.0 or -0.0, reaches no answer: every stage is the same, and so is the stage at which a job stops.
 use Prim.Native.Nat.{ℕ, zero, suc}
 use mathlib.Core.Path.{_≡_, refl, ap, _∙_}
 use mathlib.Core.Bool.{not, _&&_, _||_}
@@ -9,11 +9,12 @@ use lib.Ieee.{Float, le}
 use Rattle.seq.specs.Choice.{pick}
 use Rattle.seq.specs.Sums.{plusZero, minusZero}
 use Rattle.weights.specs.Weights.{nonzeros, normalized}
-use Rattle.halving.specs.Halving.{Passed}
+use Rattle.halve.specs.Halve.{Halved}
+use Rattle.halving.specs.Halving.{passOf}
 use Rattle.halving.proofs.Starts.{normalized-same, pass-same}
-use Rattle.stages.specs.Stages.{Stage, nextStage, stageOf, movedBy}
+use Rattle.stages.specs.Stages.{stageOf, movedBy}
 use Rattle.rules.specs.Rules.{meets}
-use Rattle.stages.specs.Stopping.{rests, breaks, exceeds, stops, firstStop, stopOf, lateNumber}
+use Rattle.stages.specs.Stopping.{rests, exceeds, stops, firstStop, stopOf}
 use Rattle.rules.specs.declared.Rule.{Rule}
 use Rattle.rules.specs.declared.Rule.the-variants.{Target, Within}
 
@@ -21,18 +22,12 @@ module _ (u : ℕ → ℕ → Float) (n : ℕ) (start : List Float) (seed : ℕ)
   stage-same : (i : ℕ) → stageOf minusZero u n start seed i ≡ stageOf plusZero u n start seed i
   unfolding stageOf
   stage-same zero = refl
-  stage-same (suc i) =
-      let s : Stage = stageOf plusZero u n start seed i in
-      ap (nextStage minusZero u n) (stage-same i)
-      ∙ ap (λ (p : Passed). record { w = p .w; rng = p .rng; good = s .good && p .good }) (pass-same u n (record { w = s .w; rng = s .rng }))
+  stage-same (suc i) = ap (passOf minusZero u n) (stage-same i) ∙ pass-same u n (stageOf plusZero u n start seed i)
 
   rests-same : (rule : Rule) (i : ℕ) → rests minusZero u n start seed rule i ≡ rests plusZero u n start seed rule i
-  rests-same (Target t) i = ap (λ (s : Stage). leb (nonzeros (s .w)) t) (stage-same i)
+  rests-same (Target t) i = ap (λ (s : Halved). leb (nonzeros (s .w)) t) (stage-same i)
   rests-same (Within allowance cap) i =
-      ap (λ (s : Stage). leb (nonzeros (s .w)) 1 || (ltb 0 i && (not (le (movedBy u n start s) allowance) && meets cap (nonzeros (s .w))))) (stage-same i)
-
-  breaks-same : (i : ℕ) → breaks minusZero u n start seed i ≡ breaks plusZero u n start seed i
-  breaks-same i = ap (λ (s : Stage). not (s .good)) (stage-same (suc i))
+      ap (λ (s : Halved). leb (nonzeros (s .w)) 1 || (ltb 0 i && (not (le (movedBy u n start s) allowance) && meets cap (nonzeros (s .w))))) (stage-same i)
 
   exceeds-same : (rule : Rule) (i : ℕ) → exceeds minusZero u n start seed rule i ≡ exceeds plusZero u n start seed rule i
   exceeds-same (Target t) i = refl
@@ -40,7 +35,7 @@ module _ (u : ℕ → ℕ → Float) (n : ℕ) (start : List Float) (seed : ℕ)
       λ j. meets cap (nonzeros (stage-same i j .w)) && not (le (movedBy u n start (stage-same (suc i) j)) allowance)
 
   stops-same : (rule : Rule) (i : ℕ) → stops minusZero u n start seed rule i ≡ stops plusZero u n start seed rule i
-  stops-same rule i = λ j. rests-same rule i j || (breaks-same i j || exceeds-same rule i j)
+  stops-same rule i = λ j. rests-same rule i j || exceeds-same rule i j
 
   first-same : (rule : Rule) (k i : ℕ) → firstStop minusZero u n start seed rule k i ≡ firstStop plusZero u n start seed rule k i
   unfolding firstStop
@@ -50,16 +45,6 @@ module _ (u : ℕ → ℕ → Float) (n : ℕ) (start : List Float) (seed : ℕ)
   stop-same : (rule : Rule) → stopOf minusZero u n start seed rule ≡ stopOf plusZero u n start seed rule
   stop-same rule = first-same rule (length start) 0
 
-  -- the number of a job that stops at stage i
-  abbrev lateAt : Float → Rule → ℕ → ℕ
-  lateAt z rule i = pick (rests z u n start seed rule i) 0 (pick (breaks z u n start seed i) 10 0)
-
-  late-at-same : (rule : Rule) (i : ℕ) → lateAt minusZero rule i ≡ lateAt plusZero rule i
-  late-at-same rule i = λ j. pick (rests-same rule i j) 0 (pick (breaks-same i j) 10 0)
-
-  late-same : (rule : Rule) → lateNumber minusZero u n start seed rule ≡ lateNumber plusZero u n start seed rule
-  late-same rule = late-at-same rule (stopOf minusZero u n start seed rule) ∙ ap (lateAt plusZero rule) (stop-same rule)
-
 -- from the weights as they are given
 module _ (u : ℕ → ℕ → Float) (n : ℕ) (w : List Float) (seed : ℕ) where
   pub stages-alike : (i : ℕ) → stageOf minusZero u n (normalized minusZero w) seed i ≡ stageOf plusZero u n (normalized plusZero w) seed i
@@ -67,6 +52,3 @@ module _ (u : ℕ → ℕ → Float) (n : ℕ) (w : List Float) (seed : ℕ) whe
 
   pub stops-alike : (rule : Rule) → stopOf minusZero u n (normalized minusZero w) seed rule ≡ stopOf plusZero u n (normalized plusZero w) seed rule
   stops-alike rule = stop-same u n (normalized minusZero w) seed rule ∙ ap (λ (start : List Float). stopOf plusZero u n start seed rule) (normalized-same w)
-
-  pub late-alike : (rule : Rule) → lateNumber minusZero u n (normalized minusZero w) seed rule ≡ lateNumber plusZero u n (normalized plusZero w) seed rule
-  late-alike rule = late-same u n (normalized minusZero w) seed rule ∙ ap (λ (start : List Float). lateNumber plusZero u n start seed rule) (normalized-same w)

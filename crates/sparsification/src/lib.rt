@@ -12,12 +12,16 @@ use weights::normalize;
 ghost use mathlib.Core.Path.{_≡_};
 ghost use lib.ListN.{length};
 ghost use Rattle.seq.specs.Sums.{plusZero};
-ghost use Rattle.sparsification.specs.Answers.{refusal, answerAt, Thinned, ThinnedFrom};
+ghost use Rattle.sparsification.specs.Answers.{refusal, Thinned};
+ghost use Rattle.sparsification.specs.Thinning.{answerAt, ThinnedFrom};
 ghost use Rattle.rules.specs.Rules.{ruleFault};
+ghost use Rattle.faults.specs.Faults.{valueFault};
 ghost use Rattle.rules.specs.declared.Rule.the-variants.{Target, Within};
+ghost use Rattle.limits.specs.Limits.{bounded};
 ghost use Rattle.limits.specs.Matrix.{columnsOf};
+ghost use Rattle.ieee.specs.Constants.{one};
 ghost use Rattle.margins.specs.Blocks.{Lent};
-ghost use Rattle.weights.specs.Weights.{l1Of, sound, normalized};
+ghost use Rattle.weights.specs.Weights.{normalized};
 ghost use Rattle.halve.specs.Handed.{Ready};
 ghost use mathlib.Core.Bool.{true};
 
@@ -48,19 +52,11 @@ fn refused(number: u64) -> Answer
     }
 }
 
-// Writes the weights that were reached, and answers for them.
-fn finish(
-    matrix: &[f64],
-    n: usize,
-    start: &[f64],
-    w: &[f64],
-    stage: usize,
-    output: &mut [f64],
-) -> Answer
-    requires { ⌜ Lent (now matrix) (length (now start)) n × (length (now w) ≡ length (now start)) × (length (now output) ≡ length (now w)) ⌝ }
-    ensures { λ r. ⌜ (r ≡ answerAt (columnsOf (now (matrix .entry)) n) n (now (start .entry)) stage (now (w .entry))) × (now (output .exit) ≡ now (w .entry)) ⌝ }
+// The answer for the weights that were reached.
+fn finish(matrix: &[f64], n: usize, start: &[f64], w: &[f64], stage: usize) -> Answer
+    requires { ⌜ Lent (now matrix) (length (now start)) n × (length (now w) ≡ length (now start)) ⌝ }
+    ensures { λ r. ⌜ r ≡ answerAt (columnsOf (now (matrix .entry)) n) n (now (start .entry)) stage (now (w .entry)) ⌝ }
 {
-    copy(output, w);
     Answer {
         number: 0,
         stage: stage as u64,
@@ -69,12 +65,11 @@ fn finish(
     }
 }
 
-// Thins from the normalized weights, and wipes the scratch. w and next are room for two vectors.
+// Thins from the normalized weights into the output, and wipes the scratch. next is room for a pass that is only tried.
 fn thin_on(
     matrix: &[f64],
     n: usize,
     start: &[f64],
-    w: &mut [f64],
     next: &mut [f64],
     seed: u64,
     rule: Rule,
@@ -82,15 +77,17 @@ fn thin_on(
     numbers: &mut [f64],
     indices: &mut [u32],
 ) -> Answer
-    requires { ⌜ Ready (now matrix) n (now start) (now numbers) (now indices) × (length (now w) ≡ length (now start)) × (length (now next) ≡ length (now start)) × (length (now output) ≡ length (now start)) × (ruleFault rule ≡ 0) ⌝ }
-    ensures { λ r. ⌜ ThinnedFrom (columnsOf (now (matrix .entry)) n) n (now (start .entry)) seed rule (now (output .entry)) (now (numbers .entry)) (now (indices .entry)) r (now (output .exit)) (now (numbers .exit)) (now (indices .exit)) ⌝ }
+    requires { ⌜ Ready (now matrix) n (now start) (now numbers) (now indices) × (bounded one (now start) ≡ true)
+        × (length (now next) ≡ length (now start)) × (length (now output) ≡ length (now start)) × (ruleFault rule ≡ 0) ⌝ }
+    ensures { λ r. ⌜ ThinnedFrom (columnsOf (now (matrix .entry)) n) n (now (start .entry)) seed rule (now (numbers .entry))
+        (now (indices .entry)) r (now (output .exit)) (now (numbers .exit)) (now (indices .exit)) ⌝ }
 {
-    copy(&mut w[..], start);
-    let r = follow(
+    copy(&mut output[..], start);
+    let stage = follow(
         matrix,
         n,
         start,
-        &mut w[..],
+        &mut output[..],
         next,
         &mut numbers[..],
         &mut indices[..],
@@ -99,10 +96,7 @@ fn thin_on(
     );
     clear(numbers);
     clear_words(indices);
-    if !r.good {
-        return refused(10);
-    }
-    finish(matrix, n, start, &w[..], r.stage, output)
+    finish(matrix, n, start, &output[..], stage)
 }
 
 // Normalizes the weights of a job that has no fault, and thins from there. start is room for them.
@@ -117,11 +111,12 @@ fn thin_sound(
     numbers: &mut [f64],
     indices: &mut [u32],
 ) -> Answer
-    requires { ⌜ Ready (now matrix) n (now weights) (now numbers) (now indices) × (sound (l1Of plusZero (now weights)) ≡ true) × (length (now start) ≡ length (now weights)) × (length (now output) ≡ length (now weights)) × (ruleFault rule ≡ 0) ⌝ }
-    ensures { λ r. ⌜ ThinnedFrom (columnsOf (now (matrix .entry)) n) n (normalized plusZero (now (weights .entry))) seed rule (now (output .entry)) (now (numbers .entry)) (now (indices .entry)) r (now (output .exit)) (now (numbers .exit)) (now (indices .exit)) ⌝ }
+    requires { ⌜ Ready (now matrix) n (now weights) (now numbers) (now indices) × (valueFault (now matrix) (now weights) ≡ 0)
+        × (length (now start) ≡ length (now weights)) × (length (now output) ≡ length (now weights)) × (ruleFault rule ≡ 0) ⌝ }
+    ensures { λ r. ⌜ ThinnedFrom (columnsOf (now (matrix .entry)) n) n (normalized plusZero (now (weights .entry))) seed rule
+        (now (numbers .entry)) (now (indices .entry)) r (now (output .exit)) (now (numbers .exit)) (now (indices .exit)) ⌝ }
 {
     let m = weights.len();
-    let mut w = [0.0f64; 256];
     let mut next = [0.0f64; 256];
     copy(&mut start[..], weights);
     normalize(&mut start[..]);
@@ -129,7 +124,6 @@ fn thin_sound(
         matrix,
         n,
         &start[..],
-        &mut w[..m],
         &mut next[..m],
         seed,
         rule,
@@ -150,7 +144,8 @@ pub fn thin(
     numbers: &mut [f64],
     indices: &mut [u32],
 ) -> Answer
-    ensures { λ r. ⌜ Thinned (job .rule) (job .seed) (now (matrix .entry)) m n (now (weights .entry)) (now (output .entry)) (now (numbers .entry)) (now (indices .entry)) r (now (output .exit)) (now (numbers .exit)) (now (indices .exit)) ⌝ }
+    ensures { λ r. ⌜ Thinned (job .rule) (job .seed) (now (matrix .entry)) m n (now (weights .entry)) (now (output .entry))
+        (now (numbers .entry)) (now (indices .entry)) r (now (output .exit)) (now (numbers .exit)) (now (indices .exit)) ⌝ }
 {
     let rule = job.rule;
     let number = job_fault(
@@ -192,7 +187,8 @@ pub fn sparsify(
     numbers: &mut [f64],
     indices: &mut [u32],
 ) -> Answer
-    ensures { λ r. ⌜ Thinned (Target target) seed (now (matrix .entry)) m n (now (weights .entry)) (now (output .entry)) (now (numbers .entry)) (now (indices .entry)) r (now (output .exit)) (now (numbers .exit)) (now (indices .exit)) ⌝ }
+    ensures { λ r. ⌜ Thinned (Target target) seed (now (matrix .entry)) m n (now (weights .entry)) (now (output .entry))
+        (now (numbers .entry)) (now (indices .entry)) r (now (output .exit)) (now (numbers .exit)) (now (indices .exit)) ⌝ }
 {
     thin(
         matrix,
@@ -222,7 +218,8 @@ pub fn sparsify_within(
     numbers: &mut [f64],
     indices: &mut [u32],
 ) -> Answer
-    ensures { λ r. ⌜ Thinned (Within allowance cap) seed (now (matrix .entry)) m n (now (weights .entry)) (now (output .entry)) (now (numbers .entry)) (now (indices .entry)) r (now (output .exit)) (now (numbers .exit)) (now (indices .exit)) ⌝ }
+    ensures { λ r. ⌜ Thinned (Within allowance cap) seed (now (matrix .entry)) m n (now (weights .entry)) (now (output .entry))
+        (now (numbers .entry)) (now (indices .entry)) r (now (output .exit)) (now (numbers .exit)) (now (indices .exit)) ⌝ }
 {
     thin(
         matrix,

@@ -1,18 +1,18 @@
 -- The search for the stage at which a job stops: where each pass leaves fewer nonzeros it finds the first stage that stops, and more fuel changes nothing.
 use Prim.Native.Nat.{ℕ, zero, suc, _+_, _≤_, _<_}
 use mathlib.Core.Path.{_≡_, refl}
-use mathlib.Core.Bool.{Bool, true, false, _||_}
+use mathlib.Core.Bool.{Bool, true, false}
 use mathlib.Core.List.{List}
 use native.Mathlib.Omega.{arith}
 use native.Mathlib.Decide.{decLt}
 use lib.Dec.{leb}
 use lib.ListN.{length}
 use lib.Ieee.{Float}
-use borrow.Author.Tests.{le-leb, not-false}
+use borrow.Author.Tests.{le-leb}
 use Rattle.seq.specs.Choice.{pick}
 use Rattle.seq.proofs.Keeping.{count-short}
 use Rattle.stages.specs.Stages.{stageOf}
-use Rattle.stages.specs.Stopping.{entriesAt, rests, breaks, exceeds, stops, firstStop, stopOf}
+use Rattle.stages.specs.Stopping.{entriesAt, rests, exceeds, stops, firstStop, stopOf}
 use Rattle.rules.specs.Rules.{ruleFault}
 use Rattle.rules.specs.declared.Rule.{Rule}
 use Rattle.rules.specs.declared.Rule.the-variants.{Target, Within}
@@ -30,16 +30,9 @@ module _ (z : Float) (u : ℕ → ℕ → Float) (n : ℕ) (start : List Float) 
   few-rests (Target t) i f h = le-leb (entriesAt z u n start seed i) t (omega (arith, target-some t f))
   few-rests (Within allowance cap) i f h = first-holds (leb (entriesAt z u n start seed i) 1) _ (le-leb (entriesAt z u n start seed i) 1 h)
 
-  -- where the job goes on, the stage has two nonzeros or more, and the next is sound
-  pub record Goes (i : ℕ) : Type 0 where
-    pub some : 2 ≤ entriesAt z u n start seed i
-    pub good : stageOf z u n start seed (suc i) .good ≡ true
-
-  pub goes : (rule : Rule) (i : ℕ) → ruleFault rule ≡ 0 → stops z u n start seed rule i ≡ false → Goes i
-  goes rule i f h =
-      let a = neither (rests z u n start seed rule i) (breaks z u n start seed i || exceeds z u n start seed rule i) h in
-      let b = neither (breaks z u n start seed i) (exceeds z u n start seed rule i) (a .1) in
-      record { some = go (decLt 1 (entriesAt z u n start seed i)) (a .0); good = not-false (stageOf z u n start seed (suc i) .good) (b .0) }
+  -- where the job goes on, the stage has two nonzeros or more
+  pub goes : (rule : Rule) (i : ℕ) → ruleFault rule ≡ 0 → stops z u n start seed rule i ≡ false → 2 ≤ entriesAt z u n start seed i
+  goes rule i f h = go (decLt 1 (entriesAt z u n start seed i)) (neither (rests z u n start seed rule i) (exceeds z u n start seed rule i) h .0)
     where
       go : Dec (1 < entriesAt z u n start seed i) → rests z u n start seed rule i ≡ false → 2 ≤ entriesAt z u n start seed i
       go (yes g) e = omega arith
@@ -58,9 +51,13 @@ module _ (z : Float) (u : ℕ → ℕ → Float) (n : ℕ) (start : List Float) 
       go (no g) (yes h) = never (stops z u n start seed rule l) (q .there) (p .before l h)
       go (no g) (no h) = omega arith
 
-  -- each sound pass on two nonzeros or more leaves fewer
+  -- every stage before i has two nonzeros or more, so that a job may come as far
+  abbrev pub Leads : ℕ → Type 0
+  Leads i = (j : ℕ) → j < i → 2 ≤ entriesAt z u n start seed j
+
+  -- each pass that a job makes leaves fewer
   abbrev pub Falls : Type 0
-  Falls = (i : ℕ) → stageOf z u n start seed (suc i) .good ≡ true → 2 ≤ entriesAt z u n start seed i → entriesAt z u n start seed (suc i) < entriesAt z u n start seed i
+  Falls = (i : ℕ) → Leads (suc i) → entriesAt z u n start seed (suc i) < entriesAt z u n start seed i
 
   pub below-more : (rule : Rule) (i : ℕ) → ((j : ℕ) → j < i → stops z u n start seed rule j ≡ false) → stops z u n start seed rule i ≡ false
       → (j : ℕ) → j < suc i → stops z u n start seed rule j ≡ false
@@ -82,8 +79,8 @@ module _ (z : Float) (u : ℕ → ℕ → Float) (n : ℕ) (start : List Float) 
             → FirstStop rule (pick t i (firstStop z u n start seed rule fuel (suc i)))
         go true e r = record { there = e; before = g }
         go false e r =
-            let p = goes rule i accepted e in
-            r (omega (arith, falls i (p .good) (p .some))) (below-more rule i g e)
+            let below = below-more rule i g e in
+            r (omega (arith, falls i (λ j l. goes rule j accepted (below j l)))) below
 
     pub entries-short : entriesAt z u n start seed 0 ≤ length start
     unfolding stageOf
@@ -97,7 +94,6 @@ module _ (z : Float) (u : ℕ → ℕ → Float) (n : ℕ) (start : List Float) 
     pub fuel-enough : (more : ℕ) → firstStop z u n start seed rule (length start + more) 0 ≡ stopOf z u n start seed rule
     fuel-enough more = only (finds (length start + more) 0 (omega (arith, entries-short)) (λ j l. absurd (omega arith))) stop-is-first
 
-    -- every stage up to the one that is returned is sound
-    pub sound-to : (i : ℕ) → i ≤ stopOf z u n start seed rule → stageOf z u n start seed i .good ≡ true
-    sound-to zero l = unfold stageOf in refl
-    sound-to (suc i) l = goes rule i accepted (stop-is-first .before i (omega arith)) .good
+    -- a job comes as far as the stage that is returned
+    pub leads : Leads (stopOf z u n start seed rule)
+    leads j l = goes rule j accepted (stop-is-first .before j l)

@@ -46,5 +46,4 @@ length-pass z u n h =
 pub length-stage : (z : Float) (u : ℕ → ℕ → Float) (n : ℕ) (start : List Float) (seed i : ℕ) → length (stageOf z u n start seed i .w) ≡ length start
 unfolding stageOf
 length-stage z u n start seed zero = refl
-length-stage z u n start seed (suc i) =
-    length-pass z u n (record { w = stageOf z u n start seed i .w; rng = stageOf z u n start seed i .rng }) ∙ length-stage z u n start seed i
+length-stage z u n start seed (suc i) = length-pass z u n (stageOf z u n start seed i) ∙ length-stage z u n start seed i

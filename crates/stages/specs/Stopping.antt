@@ -25,10 +25,6 @@ module _ (z : Float) (u : ℕ → ℕ → Float) (n : ℕ) (start : List Float) 
   rests (Target t) i = leb (entriesAt i) t
   rests (Within allowance cap) i = leb (entriesAt i) 1 || (ltb 0 i && (above allowance i && meets cap (entriesAt i)))
 
-  -- the pass from stage i found a sum that is not above 0 and finite
-  abbrev pub breaks : ℕ → Bool
-  breaks i = not (stageOf z u n start seed (suc i) .good)
-
   -- stage i meets the cap, and the next measures above the allowance
   abbrev pub exceeds : Rule → ℕ → Bool
   exceeds (Target t) i = false
@@ -36,7 +32,7 @@ module _ (z : Float) (u : ℕ → ℕ → Float) (n : ℕ) (start : List Float) 
 
   -- the job stops at stage i
   abbrev pub stops : Rule → ℕ → Bool
-  stops rule i = rests rule i || (breaks i || exceeds rule i)
+  stops rule i = rests rule i || exceeds rule i
 
   -- the first stage from i on at which it stops, within so many
   unfoldable pub firstStop : Rule → ℕ → ℕ → ℕ
@@ -46,7 +42,3 @@ module _ (z : Float) (u : ℕ → ℕ → Float) (n : ℕ) (start : List Float) 
   -- The stage at which the job stops. Every pass leaves fewer nonzeros, so that there are fewer stages than weights.
   abbrev pub stopOf : Rule → ℕ
   stopOf rule = firstStop rule (length start) 0
-
-  -- 10 where it stops because the pass from there broke
-  abbrev pub lateNumber : Rule → ℕ
-  lateNumber rule = pick (rests rule (stopOf rule)) 0 (pick (breaks (stopOf rule)) 10 0)

@@ -7,20 +7,17 @@ use trial::try_pass;
 use weights::count_nonzeros;
 ghost use mathlib.Core.Path.{_≡_};
 ghost use Prim.Native.Nat.{_<_};
+ghost use mathlib.Core.Bool.{true};
 ghost use lib.ListN.{length};
+ghost use Rattle.limits.specs.Limits.{bounded};
 ghost use Rattle.limits.specs.Matrix.{columnsOf};
+ghost use Rattle.ieee.specs.Constants.{one};
 ghost use Rattle.halve.specs.Handed.{Ready};
 ghost use Rattle.stages.specs.Paths.{Followed};
 ghost use Rattle.rules.specs.Rules.{ruleFault};
 ghost use Rattle.rules.specs.declared.Rule.the-variants.{Target, Within};
 
-// The stage that a job has reached, and whether every sum on the way was above 0 and finite.
-pub struct Reached {
-    pub stage: usize,
-    pub good: bool,
-}
-
-// Passes until at most so many entries are not 0. w starts as the normalized weights.
+// Passes until at most so many entries are not 0; the stage that is reached. w starts as the normalized weights.
 fn to_target(
     matrix: &[f64],
     n: usize,
@@ -29,14 +26,14 @@ fn to_target(
     indices: &mut [u32],
     seed: u64,
     target: usize,
-) -> Reached
-    requires { ⌜ Ready (now matrix) n (now w) (now numbers) (now indices) × (0 < target) ⌝ }
+) -> usize
+    requires { ⌜ Ready (now matrix) n (now w) (now numbers) (now indices) × (bounded one (now w) ≡ true) × (0 < target) ⌝ }
     ensures { λ r. ⌜ Followed (columnsOf (now (matrix .entry)) n) n (now (w .entry)) seed (Target target) r (now (w .exit)) ⌝ }
 {
     let mut rng = SplitMix64::new(seed);
     let mut stage = 0usize;
     while count_nonzeros(&w[..]) > target {
-        let h = halving_pass(
+        let after = halving_pass(
             matrix,
             n,
             &mut w[..],
@@ -44,17 +41,13 @@ fn to_target(
             &mut indices[..],
             rng,
         );
-        if !h.good {
-            return Reached { stage, good: false };
-        }
-        let next = h.rng;
-        rng = next;
+        rng = after;
         stage += 1;
     }
-    Reached { stage, good: true }
+    stage
 }
 
-// Passes until one measures above the allowance and the cap is met. w starts as the normalized weights.
+// Passes until one measures above the allowance and the cap is met; the stage that is reached. w starts as the normalized weights.
 fn to_allowance(
     matrix: &[f64],
     n: usize,
@@ -66,8 +59,9 @@ fn to_allowance(
     seed: u64,
     allowance: f64,
     cap: Cap,
-) -> Reached
-    requires { ⌜ Ready (now matrix) n (now w) (now numbers) (now indices) × (now w ≡ now start) × (length (now next) ≡ length (now w)) × (ruleFault (Within allowance cap) ≡ 0) ⌝ }
+) -> usize
+    requires { ⌜ Ready (now matrix) n (now w) (now numbers) (now indices) × (bounded one (now w) ≡ true) × (now w ≡ now start)
+        × (length (now next) ≡ length (now w)) × (ruleFault (Within allowance cap) ≡ 0) ⌝ }
     ensures { λ r. ⌜ Followed (columnsOf (now (matrix .entry)) n) n (now (w .entry)) seed (Within allowance cap) r (now (w .exit)) ⌝ }
 {
     let mut rng = SplitMix64::new(seed);
@@ -85,22 +79,20 @@ fn to_allowance(
             allowance,
             cap,
         );
-        if !t.good {
-            return Reached { stage, good: false };
-        }
         if t.taken {
             stage += 1;
         }
         if !t.more {
             break;
         }
-        let r = t.rng;
-        rng = r;
+        let after = t.rng;
+        rng = after;
     }
-    Reached { stage, good: true }
+    stage
 }
 
-// Follows the stages to the one at which the rule stops. w and start are the normalized weights, next is room for another vector.
+// Follows the stages to the one at which the rule stops, and says which it is. w and start are the normalized weights, next is room for a pass that is
+// only tried.
 pub fn follow(
     matrix: &[f64],
     n: usize,
@@ -111,8 +103,9 @@ pub fn follow(
     indices: &mut [u32],
     seed: u64,
     rule: Rule,
-) -> Reached
-    requires { ⌜ Ready (now matrix) n (now w) (now numbers) (now indices) × (now w ≡ now start) × (length (now next) ≡ length (now w)) × (ruleFault rule ≡ 0) ⌝ }
+) -> usize
+    requires { ⌜ Ready (now matrix) n (now w) (now numbers) (now indices) × (bounded one (now w) ≡ true) × (now w ≡ now start)
+        × (length (now next) ≡ length (now w)) × (ruleFault rule ≡ 0) ⌝ }
     ensures { λ r. ⌜ Followed (columnsOf (now (matrix .entry)) n) n (now (w .entry)) seed rule r (now (w .exit)) ⌝ }
 {
     match rule {

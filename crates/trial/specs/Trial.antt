@@ -1,7 +1,7 @@
--- What a try of one more pass says.
+-- Told between functions: what a try of one more pass says.
 use Prim.Native.Nat.{ℕ}
 use mathlib.Core.Path.{_≡_}
-use mathlib.Core.Bool.{Bool, true, not, _&&_}
+use mathlib.Core.Bool.{Bool, not, _&&_}
 use mathlib.Core.List.{List}
 use lib.ListN.{length}
 use lib.Ieee.{Float, le}
@@ -9,6 +9,7 @@ use Rattle.seq.specs.Choice.{pick}
 use Rattle.seq.specs.Sums.{plusZero}
 use Rattle.margins.specs.Margins.{maxChange}
 use Rattle.weights.specs.Weights.{nonzeros}
+use Rattle.halve.specs.Handed.{halvesOf}
 use Rattle.halving.specs.Halving.{passOf}
 use Rattle.rules.specs.Rules.{meets}
 use Rattle.rules.specs.declared.Cap.{Cap}
@@ -16,12 +17,12 @@ use Rattle.trial.specs.declared.Tried.{Tried}
 
 -- the pass from w measures above the allowance
 abbrev pub aboveAfter : (ℕ → ℕ → Float) → ℕ → List Float → Float → List Float → ℕ → Bool
-aboveAfter u n start allowance w rng = not (le (maxChange u (length start) n start (passOf plusZero u n (record { w = w; rng = rng }) .w)) allowance)
+aboveAfter u n start allowance w rng = not (le (maxChange u (length start) n start (passOf plusZero u n (halvesOf w rng) .w)) allowance)
 
--- one more pass was tried from the weights w: whether it was sound, whether it was taken, and whether another is to be tried
-pub record TriedOnce (u : ℕ → ℕ → Float) (n : ℕ) (start : List Float) (allowance : Float) (cap : Cap) (w : List Float) (rng : ℕ) (r : Tried) (w' : List Float) : Type 0 where
-  pub good : r .good ≡ passOf plusZero u n (record { w = w; rng = rng }) .good
-  pub draws : r .good ≡ true → r .rng .state ≡ passOf plusZero u n (record { w = w; rng = rng }) .rng
-  pub taken : r .good ≡ true → r .taken ≡ not (aboveAfter u n start allowance w rng && meets cap (nonzeros w))
-  pub weights : r .good ≡ true → w' ≡ pick (r .taken) (passOf plusZero u n (record { w = w; rng = rng }) .w) w
-  pub more : r .good ≡ true → r .more ≡ (r .taken && not (aboveAfter u n start allowance w rng && meets cap (nonzeros w')))
+-- one more pass was tried from the weights w: whether it was taken, and whether another is to be tried
+pub record TriedOnce (u : ℕ → ℕ → Float) (n : ℕ) (start : List Float) (allowance : Float) (cap : Cap)
+    (w : List Float) (rng : ℕ) (r : Tried) (w' : List Float) : Type 0 where
+  pub draws : r .rng .state ≡ passOf plusZero u n (halvesOf w rng) .rng
+  pub taken : r .taken ≡ not (aboveAfter u n start allowance w rng && meets cap (nonzeros w))
+  pub weights : w' ≡ pick (r .taken) (passOf plusZero u n (halvesOf w rng) .w) w
+  pub more : r .more ≡ (r .taken && not (aboveAfter u n start allowance w rng && meets cap (nonzeros w')))

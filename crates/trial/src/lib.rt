@@ -27,10 +27,9 @@ fn ends_there(above: bool, cap: Cap, w: &[f64]) -> bool
     }
 }
 
-// How a try of one more pass ended: whether its sum was sound, whether its weights were taken, and whether another is to be tried.
+// How a try of one more pass ended: whether its weights were taken, and whether another is to be tried.
 pub struct Tried {
     pub rng: SplitMix64,
-    pub good: bool,
     pub taken: bool,
     pub more: bool,
 }
@@ -48,25 +47,17 @@ pub fn try_pass(
     allowance: f64,
     cap: Cap,
 ) -> Tried
-    requires { ⌜ Ready (now matrix) n (now w) (now numbers) (now indices) × (length (now start) ≡ length (now w)) × (length (now next) ≡ length (now w)) × (2 ≤ nonzeros (now w)) ⌝ }
-    ensures { λ r. ⌜ TriedOnce (columnsOf (now (matrix .entry)) n) n (now (start .entry)) allowance cap (now (w .entry)) (rng .state) r (now (w .exit)) ⌝ }
+    requires { ⌜ Ready (now matrix) n (now w) (now numbers) (now indices) × (length (now start) ≡ length (now w))
+        × (length (now next) ≡ length (now w)) × (2 ≤ nonzeros (now w)) ⌝ }
+    ensures { λ r. ⌜ TriedOnce (columnsOf (now (matrix .entry)) n) n (now (start .entry)) allowance cap
+        (now (w .entry)) (rng .state) r (now (w .exit)) ⌝ }
 {
     copy(&mut next[..], &w[..]);
-    let h = halving_pass(matrix, n, &mut next[..], numbers, indices, rng);
-    let r = h.rng;
-    if !h.good {
-        return Tried {
-            rng: r,
-            good: false,
-            taken: false,
-            more: false,
-        };
-    }
+    let after = halving_pass(matrix, n, &mut next[..], numbers, indices, rng);
     let above = !(change_of(matrix, n, start, &next[..]) <= allowance);
     if ends_there(above, cap, &w[..]) {
         return Tried {
-            rng: r,
-            good: true,
+            rng: after,
             taken: false,
             more: false,
         };
@@ -74,8 +65,7 @@ pub fn try_pass(
     copy(&mut w[..], &next[..]);
     let ends = ends_there(above, cap, &w[..]);
     Tried {
-        rng: r,
-        good: true,
+        rng: after,
         taken: true,
         more: !ends,
     }

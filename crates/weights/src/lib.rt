@@ -1,12 +1,10 @@
 // Weights: how many are not 0, the float sum of their magnitudes, and the division by it.
 use ieee::abs;
-use ieee::is_finite;
 ghost use mathlib.Core.Path.{_≡_};
 ghost use lib.ListN.{length};
-ghost use Rattle.seq.specs.Choice.{pick};
 ghost use Rattle.seq.specs.Lists.{tabulate};
 ghost use Rattle.seq.specs.Sums.{plusZero};
-ghost use Rattle.weights.specs.Weights.{nonzeros, l1Of, sound, overAt, normalized};
+ghost use Rattle.weights.specs.Weights.{nonzeros, l1Of, overAt, normalized};
 
 // The float sum of the magnitudes.
 pub fn l1(w: &[f64]) -> f64
@@ -32,18 +30,12 @@ fn divide(w: &mut [f64], d: f64)
     }
 }
 
-// Divides the weights by their sum of magnitudes, where that is above 0 and finite; whether it is.
-pub fn normalize(w: &mut [f64]) -> bool
-    ensures { λ r. ⌜ (r ≡ sound (l1Of plusZero (now (w .entry)))) × (now (w .exit) ≡ pick r (normalized plusZero (now (w .entry))) (now (w .entry))) ⌝ }
+// Divides the weights by their sum of magnitudes.
+pub fn normalize(w: &mut [f64])
+    ensures { λ _. ⌜ now (w .exit) ≡ normalized plusZero (now (w .entry)) ⌝ }
 {
     let sum = l1(&w[..]);
-    if sum > 0.0 {
-        if is_finite(sum) {
-            divide(w, sum);
-            return true;
-        }
-    }
-    false
+    divide(w, sum);
 }
 
 // How many weights are not 0.

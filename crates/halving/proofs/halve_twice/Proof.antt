@@ -1,6 +1,5 @@
 -- `halving::halve_twice` meets its contract: the second halving starts from what the first left, with the same rest and the same ω.
 use borrow.Author.Needs.{needs}
-use mathlib.Core.Path.{refl}
 use native.Mathlib.Omega.{arith}
 use Rattle.limits.specs.Matrix.{columnsOf}
 use Rattle.halve.proofs.Calls.{ready-still}
@@ -59,7 +58,8 @@ returns c =
     let c24 = c20 .before .before .before .before in
     let c32 = c24 .before .before .before .before .before .before .before .before in
     let a = c32 .args in
-    pass-holds (columnsOf (a .matrix .now) (a .n)) (a .n) (a .w .now) _ _ _ (a .rest .now) (c24 .abs .result) (a .rng .state) _ _ _ _ (c32 .pre .1) (c24 .abs .ensures) (c20 .halve .ensures) (c10 .halve2 .ensures) (c2 .normalize .ensures .0) (c2 .normalize .ensures .1) refl refl
+    pass-holds (columnsOf (a .matrix .now) (a .n)) (a .n) (a .w .now) _ _ _ (a .rest .now) (c24 .abs .result) (a .rng .state) _ _
+    (c32 .pre .1) (c24 .abs .ensures) (c20 .halve .ensures) (c10 .halve2 .ensures) (c2 .normalize .ensures)
 
 pub halve-twice-spec : {M : Type 1} → statement M
 halve-twice-spec =

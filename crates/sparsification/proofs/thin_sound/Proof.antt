@@ -1,13 +1,16 @@
--- `sparsification::thin_sound` meets its contract: the copy of sound weights is normalized, and the local arrays have room for them.
-use lib.Seq.{length-take-le}
-use Rattle.seq.specs.Sums.{plusZero}
-use Rattle.halve.proofs.Calls.{ready-still}
-use Rattle.stages.proofs.Lengths.{length-normalized}
-use Rattle.sparsification.proofs.Finishing.{normal-of}
+-- `sparsification::thin_sound` meets its contract: the copy of sound weights is normalized, and the local array has room for them.
 use borrow.Author.Needs.{needs}
 use mathlib.Core.Path.{refl, sym, ap, _∙_}
 use native.Mathlib.Omega.{arith}
 use lib.ListN.{length}
+use lib.Seq.{length-take-le}
+use Rattle.seq.specs.Sums.{plusZero}
+use Rattle.weights.specs.Weights.{normalized}
+use Rattle.halve.proofs.Calls.{ready-still}
+use Rattle.stages.proofs.Lengths.{length-normalized}
+use Rattle.stages.proofs.Passing.{normal-start}
+use Rattle.sparsification.proofs.Accepting.{values-good}
+use Rattle.sparsification.proofs.Finishing.{start-bounded}
 use Rattle.sparsification.proofs.thin_sound.Statement.{statement}
 use Rattle.sparsification.proofs.thin_sound.Tie as tie
 
@@ -17,27 +20,31 @@ copy-requires c κs = search needs
 normalize-requires : tie.Need-normalize-requires
 normalize-requires c κs = search needs
 
-array-borrow-prefix-w : tie.Need-array-borrow-prefix-w
-array-borrow-prefix-w c = search needs
-
-slice-aggregate-thin-on : tie.Need-slice-aggregate-thin-on
-slice-aggregate-thin-on c = sym (length-take-le _ _ (omega (arith, c .before .before .before .before .before .before .before .before .before .before .before .before .before .before .before .before .pre .0 .few)))
-
 array-borrow-prefix-next : tie.Need-array-borrow-prefix-next
 array-borrow-prefix-next c = search needs
 
-slice-aggregate-thin-on-2 : tie.Need-slice-aggregate-thin-on-2
-slice-aggregate-thin-on-2 c = sym (length-take-le _ _ (omega (arith, c .before .before .before .before .before .before .before .before .before .before .before .before .before .before .before .before .before .pre .0 .few)))
+slice-aggregate-thin-on : tie.Need-slice-aggregate-thin-on
+slice-aggregate-thin-on c =
+    let at-start = c .before .before .before .before .before .before .before .before .before .before .before .before .before .before .before .before in
+    sym (length-take-le _ _ (omega (arith, at-start .pre .0 .few)))
 
 thin-on-requires : tie.Need-thin-on-requires
 thin-on-requires c κs =
-    let c8 = c .before .before .before .before .before .before .before .before in
-    let c12 = c8 .before .before .before .before in
-    let c20 = c12 .before .before .before .before .before .before .before .before in
-    let v = c20 .pre in
-    let normal = normal-of (c20 .args .weights .now) _ _ (c8 .normalize .result) (c12 .copy .ensures) (c8 .normalize .ensures .0) (c8 .normalize .ensures .1) (v .1) in
-    let long = ap length normal ∙ length-normalized plusZero (c20 .args .weights .now) in
-    (ready-still (v .0) long refl refl, length-take-le _ _ (omega (arith, v .0 .few)) ∙ sym long, length-take-le _ _ (omega (arith, v .0 .few)) ∙ sym long, v .3 ∙ sym long, v .4)
+    let at-normalize = c .before .before .before .before .before .before .before in
+    let at-copy = at-normalize .before .before .before .before in
+    let at-known = at-copy .before .before .before .before .before .before in
+    let at-start = at-known .before .before in
+    let given = at-start .pre in
+    let w = at-start .args .weights .now in
+    let normal = at-normalize .normalize .ensures ∙ ap (normalized plusZero) (at-copy .copy .ensures) in
+    let long = ap length normal ∙ length-normalized plusZero w in
+    let v = values-good (at-start .args .matrix .now) w (given .1) in (
+      ready-still (given .0) long refl refl,
+      rw normal (start-bounded (normalized plusZero w) _ (normal-start w (λ j. at-known .shared-slice-known2 .given j) (v .ends) (v .total)) refl),
+      length-take-le _ _ (omega (arith, given .0 .few)) ∙ sym long,
+      given .3 ∙ sym long,
+      given .4,
+    )
 
 same-length : tie.Need-same-length
 same-length c = search needs
@@ -53,13 +60,10 @@ same-length-4 c = search needs
 
 returns : tie.Need-returns
 returns c =
-    let c8 = c .before .before .before .before .before .before .before .before in
-    let c17 = c8 .before .before .before .before .before .before .before .before .before in
-    let c21 = c17 .before .before .before .before in
-    let c29 = c21 .before .before .before .before .before .before .before .before in
-    let v = c29 .pre in
-    let normal = normal-of (c29 .args .weights .now) _ _ (c17 .normalize .result) (c21 .copy .ensures) (c17 .normalize .ensures .0) (c17 .normalize .ensures .1) (v .1) in
-    rw (← normal) (c8 .thin-on .ensures)
+    let at-thin = c .before .before .before .before .before .before .before in
+    let at-normalize = at-thin .before .before .before .before .before .before .before .before in
+    let at-copy = at-normalize .before .before .before .before in
+    rw (← at-normalize .normalize .ensures ∙ ap (normalized plusZero) (at-copy .copy .ensures)) (at-thin .thin-on .ensures)
 
 pub thin-sound-spec : {M : Type 1} → statement M
 thin-sound-spec =
@@ -67,10 +71,8 @@ thin-sound-spec =
     (tie.spec
     copy-requires
     normalize-requires
-    array-borrow-prefix-w
-    slice-aggregate-thin-on
     array-borrow-prefix-next
-    slice-aggregate-thin-on-2
+    slice-aggregate-thin-on
     thin-on-requires
     same-length
     same-length-2

@@ -9,18 +9,19 @@ enum-known-rule c = search needs
 
 to-target-requires : tie.Need-to-target-requires
 to-target-requires c κs =
-    let c4 = c .before .before .before .before in
-    let c12 = c4 .before .before .before .before .before .before .before .before in
-    (c12 .pre .0, target-some _ (rw (c4 .rule .given .1) at (c12 .pre .3)))
+    let at-rule = c .before .before .before .before in
+    let at-start = at-rule .before .before .before .before .before .before .before .before in
+    (at-start .pre .0, at-start .pre .1, target-some _ (rw (at-rule .rule .given .1) at (at-start .pre .4)))
 
 enum-known-rule-2 : tie.Need-enum-known-rule-2
 enum-known-rule-2 c = search needs
 
 to-allowance-requires : tie.Need-to-allowance-requires
 to-allowance-requires c κs =
-    let c5 = c .before .before .before .before .before in
-    let c13 = c5 .before .before .before .before .before .before .before .before in
-    (c13 .pre .0, c13 .pre .1, c13 .pre .2, rw (c5 .rule2 .given .1) at (c13 .pre .3))
+    let at-rule = c .before .before .before .before .before in
+    let at-start = at-rule .before .before .before .before .before .before .before .before in
+    let given = at-start .pre in
+    (given .0, given .1, given .2, given .3, rw (at-rule .rule2 .given .1) at (given .4))
 
 same-length : tie.Need-same-length
 same-length c = search needs
@@ -32,7 +33,10 @@ same-length-3 : tie.Need-same-length-3
 same-length-3 c = search needs
 
 returns : tie.Need-returns
-returns c = rw (c .before .before .before .before .before .before .before .before .before .before .before .rule .given .1) (c .before .before .before .before .before .before .to-target .ensures)
+returns c =
+    let at-target = c .before .before .before .before .before .before in
+    let at-rule = at-target .before .before .before .before .before in
+    rw (at-rule .rule .given .1) (at-target .to-target .ensures)
 
 same-length-4 : tie.Need-same-length-4
 same-length-4 c = search needs
@@ -47,7 +51,10 @@ same-length-7 : tie.Need-same-length-7
 same-length-7 c = search needs
 
 returns-2 : tie.Need-returns-2
-returns-2 c = rw (c .before .before .before .before .before .before .before .before .before .before .before .before .before .before .rule2 .given .1) (c .before .before .before .before .before .before .before .before .to-allowance .ensures)
+returns-2 c =
+    let at-allowance = c .before .before .before .before .before .before .before .before in
+    let at-rule = at-allowance .before .before .before .before .before .before in
+    rw (at-rule .rule2 .given .1) (at-allowance .to-allowance .ensures)
 
 pub follow-spec : {M : Type 1} → statement M
 follow-spec =
