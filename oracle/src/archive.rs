@@ -18,7 +18,7 @@ mod tally;
 #[path = "shared/watch.rs"]
 mod watch;
 
-use jobs::{by_stages, Ensemble, Rule};
+use jobs::{by_stages, refusal, Ensemble, Rule};
 
 /// An entry of a kind, as the program makes it.
 fn entry(kind: u64, u: f64) -> f64 {
@@ -43,7 +43,7 @@ fn weight(kind: u64, u: f64) -> f64 {
     }
 }
 
-/// The program's line for a job, by the original.
+/// The program's line for a job, by the original, or by the table of refusals.
 fn line(job: &str) -> String {
     let field: Vec<&str> = job.split('\t').collect();
     let number = |k: usize| field[k].parse::<u64>().expect("a number");
@@ -60,7 +60,12 @@ fn line(job: &str) -> String {
         }
     };
     let columns: Vec<Vec<f64>> = matrix.chunks(n).map(<[f64]>::to_vec).collect();
-    let said = by_stages(&columns, &Ensemble { matrix, m, n, weights, seed }, rule);
+    let e = Ensemble { matrix, m, n, weights, seed };
+    let refused = refusal(&e, rule, m, usize::MAX, usize::MAX);
+    if refused != 0 {
+        return format!("{refused}\t0\t0") + &"\t0000000000000000".repeat(1 + m);
+    }
+    let said = by_stages(&columns, &e, rule);
     assert!(said.agrees, "the original's own call gives other weights");
     let mut text = format!("0\t{}\t{}\t{:016x}", said.stage, said.nonzeros, said.change.to_bits());
     for w in said.weights {

@@ -238,7 +238,7 @@ fn a_rule(m: usize, chance: &mut Chance) -> Rule {
         return Rule::Target(some(chance));
     }
     let allowance = match chance.below(8) {
-        0 => chance.pick(&[0.0, -0.0, f64::INFINITY, f64::MAX, 5e-324, 2.0, 1.0]),
+        0 => chance.pick(&[0.0, -0.0, f64::MAX, 5e-324, 2.0, 1.0]),
         1 => chance.unit() * 1e-3,
         2 => chance.unit() * 2.0,
         _ => chance.unit() * 0.5,
@@ -270,7 +270,7 @@ fn spoiled(chance: &mut Chance) -> (Ensemble, Rule, Lent<u64>, Scratch) {
         match chance.below(14) {
             0 | 1 => {
                 rule = Rule::Within(
-                    chance.pick(&[-1.0, f64::NAN, -f64::NAN, -5e-324, f64::NEG_INFINITY]),
+                    chance.pick(&[-1.0, f64::NAN, -f64::NAN, -5e-324, f64::NEG_INFINITY, f64::INFINITY]),
                     chance.pick(&[None, Some(0), Some(3)]),
                 )
             }

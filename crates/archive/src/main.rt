@@ -1,5 +1,5 @@
-// Replays an archive of 36 jobs: number, stage, nonzero entries, change and weights of each, in hexadecimal. The file stdout holds what the
-// original answers for them. Entries and weights are made by the generator from the job's seed.
+// Replays an archive of 37 jobs: number, stage, nonzero entries, change and weights of each, in hexadecimal. The file stdout holds what the
+// original answers for them, but for the last, whose allowance is infinite and which is refused. Entries and weights are made by the generator from the job's seed.
 use draw::SplitMix64;
 use report::print_answer;
 use report::print_weights;
@@ -11,7 +11,7 @@ use sparsification::sparsify_within;
 ghost use Prim.Native.Nat.{_≤_, _<_};
 ghost use lib.ListN.{length};
 
-const COLUMNS: [usize; 36] = [
+const COLUMNS: [usize; 37] = [
     2,
     3,
     4,
@@ -48,9 +48,10 @@ const COLUMNS: [usize; 36] = [
     12,
     7,
     20,
+    8,
 ];
 
-const ROWS: [usize; 36] = [
+const ROWS: [usize; 37] = [
     2,
     5,
     3,
@@ -87,9 +88,10 @@ const ROWS: [usize; 36] = [
     12,
     9,
     20,
+    16,
 ];
 
-const ENTRIES: [u64; 36] = [
+const ENTRIES: [u64; 37] = [
     0,
     0,
     1,
@@ -126,9 +128,10 @@ const ENTRIES: [u64; 36] = [
     3,
     0,
     1,
+    1,
 ];
 
-const WEIGHTS: [u64; 36] = [
+const WEIGHTS: [u64; 37] = [
     0,
     1,
     0,
@@ -165,9 +168,10 @@ const WEIGHTS: [u64; 36] = [
     0,
     3,
     5,
+    2,
 ];
 // A target, or 0 where the job has an allowance.
-const TARGETS: [usize; 36] = [
+const TARGETS: [usize; 37] = [
     1,
     1,
     2,
@@ -204,9 +208,10 @@ const TARGETS: [usize; 36] = [
     0,
     0,
     0,
+    0,
 ];
 // An allowance, or -1 for infinity.
-const ALLOWANCES: [f64; 36] = [
+const ALLOWANCES: [f64; 37] = [
     0.0,
     0.0,
     0.0,
@@ -228,7 +233,7 @@ const ALLOWANCES: [f64; 36] = [
     0.5,
     0.0,
     0.25,
-    -1.0,
+    1.7976931348623157e308,
     0.3,
     0.1,
     0.2,
@@ -243,9 +248,10 @@ const ALLOWANCES: [f64; 36] = [
     0.0,
     0.1,
     -0.0,
+    -1.0,
 ];
 // A cap, or 0 where there is none.
-const CAPS: [usize; 36] = [
+const CAPS: [usize; 37] = [
     0,
     0,
     0,
@@ -282,6 +288,7 @@ const CAPS: [usize; 36] = [
     0,
     0,
     40,
+    0,
 ];
 
 // An answer and its weights.
@@ -367,7 +374,7 @@ fn fill_weights(a: &mut [f64], kind: u64, rng: SplitMix64) {
 
 // One job of the archive.
 fn replay(k: usize)
-    requires { ⌜ k < 36 ⌝ }
+    requires { ⌜ k < 37 ⌝ }
 {
     let m = COLUMNS[k];
     let n = ROWS[k];
@@ -385,7 +392,7 @@ fn replay(k: usize)
 
 // Makes the entries and the weights of a job, and answers it.
 fn make(matrix: &mut [f64], weights: &mut [f64], m: usize, n: usize, k: usize)
-    requires { ⌜ (k < 36) × (m ≤ 64) ⌝ }
+    requires { ⌜ (k < 37) × (m ≤ 64) ⌝ }
 {
     let seed = k as u64;
     let rng = fill_entries(&mut matrix[..], ENTRIES[k], SplitMix64::new(seed));
@@ -396,7 +403,7 @@ fn make(matrix: &mut [f64], weights: &mut [f64], m: usize, n: usize, k: usize)
 
 // Thins by a target or within an allowance, and shows what comes of it.
 fn answer(matrix: &[f64], weights: &[f64], m: usize, n: usize, k: usize, output: &mut [f64])
-    requires { ⌜ k < 36 ⌝ }
+    requires { ⌜ k < 37 ⌝ }
 {
     let seed = k as u64;
     let target = TARGETS[k];
@@ -448,7 +455,7 @@ fn cap_of(cap: usize) -> Cap {
 
 fn main() {
     let mut k = 0usize;
-    while k < 36 {
+    while k < 37 {
         replay(k);
         k += 1;
     }

@@ -1,4 +1,4 @@
--- What a job is refused for before any work is done: the lowest number that applies.
+-- What a job is refused for before any work is done: the first number that applies, in the order 1, 12, 2, 3, .., 9.
 use Prim.Native.Nat.{ℕ, _*_}
 use mathlib.Core.Bool.{not, _||_}
 use mathlib.Core.List.{List}
@@ -30,7 +30,7 @@ valueFault u w =
     (pick (allTo (λ j. finite (at w j)) (length w))
     (pick (sound (l1Of plusZero w)) 0 9) 8) 7
 
--- the lowest of all
+-- the first of all
 unfoldable pub jobFault : Rule → List Float → ℕ → ℕ → List Float → ℕ → ℕ → ℕ → ℕ
 jobFault rule u m n w output numbers indices =
     orElse (ruleFault rule) (orElse (sizeFault m n (length u) (length w) output numbers indices) (valueFault u w))

@@ -80,7 +80,7 @@ fn value_fault(matrix: &[f64], weights: &[f64]) -> u64
     if is_finite(sum) { 0 } else { 9 }
 }
 
-// The lowest number that applies, or 0.
+// The first number that applies, or 0.
 pub fn job_fault(
     rule: Rule,
     matrix: &[f64],

@@ -40,7 +40,7 @@ okLine r = okWord ++ (countText (r .stage) ++ (tab ∷ (countText (r .nonzeros) 
 unfoldable pub answerText : Answer → List Float → List ℕ
 answerText r w = pick (eqb (r .number) 0) (okLine r ++ weightLines w (length w)) (noteText refusedWord (r .number))
 
--- What a sheet's job is refused for: of the numbers, a sheet can reach 1, 2, 5, 7, 8 and 9 before any work is done.
+-- What a sheet's job is refused for: of the numbers, a sheet can reach 1, 12, 2, 5, 7, 8 and 9.
 unfoldable pub sheetFault : Rule → List Float → ℕ → ℕ → List Float → ℕ
 sheetFault rule u m n w = orElse (ruleFault rule) (orElse (pick (eqb m 0 || eqb n 0) 5 0) (valueFault u w))
 

@@ -155,25 +155,26 @@ module _ (z : Float) (u : ℕ → ℕ → Float) (n : ℕ) (start : List Float) 
         let e : ℕ = entriesAt z u n start seed k in
         one-holds (rests z u n start seed (Within a (AtMost c)) k) (exceeds z u n start seed (Within a (AtMost c)) k)
         (stop-is-first z u n start seed falls (Within a (AtMost c)) f .there)
-        (λ r. one-holds (leb e 1) (ltb 0 k && (above z u n start seed a k && leb e c)) r (λ y. le-leb e c (omega (arith, leb-true e 1 y, some (le plusZero a) f)))
+        (λ r. one-holds (leb e 1) (ltb 0 k && (above z u n start seed a k && leb e c)) r (λ y. le-leb e c (omega (arith, leb-true e 1 y, some (le plusZero a) (finite a) f)))
         (λ y g. both (above z u n start seed a k) (leb e c) (both (ltb 0 k) (above z u n start seed a k && leb e c) g .1) .1))
         (λ r g. both (leb e c) (above z u n start seed a (suc k)) g .0)
       where
-        some : (t : Bool) → pick t (capFault (AtMost c)) 1 ≡ 0 → 1 ≤ c
-        some true h = cap-some c h
-        some false h = absurd (omega arith)
+        some : (t s : Bool) → pick t (pick s (capFault (AtMost c)) 12) 1 ≡ 0 → 1 ≤ c
+        some true true h = cap-some c h
+        some true false h = absurd (omega arith)
+        some false s h = absurd (omega arith)
 
     -- without a cap, the allowance
     pub allowance-kept : (a : Float) → ruleFault (Within a Absent) ≡ 0 → ((j : ℕ) → j < length start → T (finite (at start j)))
         → le (movedBy u n start (stageOf z u n start seed (stopOf z u n start seed (Within a Absent)))) a ≡ true
     allowance-kept a f h = go (stopOf z u n start seed (Within a Absent)) (stop-is-first z u n start seed falls (Within a Absent) f)
       where
-        nonnegative : (t : Bool) → pick t (capFault Absent) 1 ≡ 0 → t ≡ true
-        nonnegative true h = refl
-        nonnegative false h = absurd (omega arith)
+        nonnegative : (t : Bool) (k : ℕ) → pick t k 1 ≡ 0 → t ≡ true
+        nonnegative true k h = refl
+        nonnegative false k h = absurd (omega arith)
 
         go : (k : ℕ) → FirstStop z u n start seed (Within a Absent) k → le (movedBy u n start (stageOf z u n start seed k)) a ≡ true
-        go zero p = unfold stageOf in rw (no-change u n start h) (nonnegative (le plusZero a) f)
+        go zero p = unfold stageOf in rw (no-change u n start h) (nonnegative (le plusZero a) (pick (finite a) (capFault Absent) 12) f)
         go (suc k) p =
             let e = neither (rests z u n start seed (Within a Absent) k) (exceeds z u n start seed (Within a Absent) k) (p .before k (omega arith)) in
             not-false (le (movedBy u n start (stageOf z u n start seed (suc k))) a) (e .1)

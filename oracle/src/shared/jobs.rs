@@ -66,16 +66,17 @@ pub fn by_stages(columns: &[Vec<f64>], e: &Ensemble, rule: Rule) -> Said {
     }
 }
 
-/// Document 01's table for a thinning, but for number 10, which the original would tell by a panic.
+/// The table of refusals for a thinning, the first that applies.
 pub fn refusal(e: &Ensemble, rule: Rule, output: usize, numbers: usize, indices: usize) -> u64 {
     let (enough_numbers, enough_indices) = scratch_sizes(e.m, e.n);
-    let (allowance_wrong, zero) = match rule {
-        Rule::Target(target) => (false, target == 0),
-        Rule::Within(allowance, cap) => (allowance.is_nan() || allowance < 0.0, cap == Some(0)),
+    let (allowance_wrong, infinite, zero) = match rule {
+        Rule::Target(target) => (false, false, target == 0),
+        Rule::Within(allowance, cap) => (allowance.is_nan() || allowance < 0.0, allowance == f64::INFINITY, cap == Some(0)),
     };
     let sum = e.weights.iter().fold(0.0, |sum, w| sum + w.abs());
     let table = [
         (1, allowance_wrong),
+        (12, infinite),
         (2, zero),
         (3, e.m > 256 || e.n > 4096),
         (4, e.matrix.len() as u128 != e.m as u128 * e.n as u128 || e.weights.len() != e.m || output != e.m),

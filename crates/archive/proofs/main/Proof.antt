@@ -6,10 +6,10 @@ use Rattle.archive.proofs.main.Statement.{statement}
 use Rattle.archive.proofs.main.Tie as tie
 
 abbrev Inv-loop : tie.InvT-loop
-Inv-loop k₀ k = k ≤ 36
+Inv-loop k₀ k = k ≤ 37
 
 abbrev μ-loop : tie.MeasureT-loop
-μ-loop k₀ k = 36 - k
+μ-loop k₀ k = 37 - k
 
 loop-holds : tie.Need-loop-holds Inv-loop μ-loop
 loop-holds c = omega arith

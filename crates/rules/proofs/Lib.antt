@@ -1,0 +1,2 @@
+-- The laws of allowances.
+pub mod Allowances
