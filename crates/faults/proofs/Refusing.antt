@@ -91,12 +91,14 @@ module _ (rule : Rule) (u : List Float) (m n : ℕ) (w : List Float) (output num
   unfolding jobFault
   rule-refused {first} e h = rw (← e, ne-eqb first 0 h)
 
-  pub sizes-refused : {first second : ℕ} → first ≡ ruleFault rule → first ≡ 0 → second ≡ sizeFault m n (length u) (length w) output numbers indices → (second ≡ 0 → ⊥)
+  pub sizes-refused : {first second : ℕ} → first ≡ ruleFault rule → first ≡ 0 → second ≡ sizeFault m n (length u) (length w)
+      output numbers indices → (second ≡ 0 → ⊥)
       → second ≡ jobFault rule u m n w output numbers indices
   unfolding jobFault
   sizes-refused {first} {second} e z f h = rw (← e, eq-eqb first 0 z, ← f, ne-eqb second 0 h)
 
-  pub values-left : {first second third : ℕ} → first ≡ ruleFault rule → first ≡ 0 → second ≡ sizeFault m n (length u) (length w) output numbers indices → second ≡ 0
+  pub values-left : {first second third : ℕ} → first ≡ ruleFault rule → first ≡ 0 → second ≡ sizeFault m n (length u) (length w)
+      output numbers indices → second ≡ 0
       → third ≡ valueFault u w → third ≡ jobFault rule u m n w output numbers indices
   unfolding jobFault
   values-left {first} {second} e z f y g = rw (← e, eq-eqb first 0 z, ← f, eq-eqb second 0 y) g

@@ -5,11 +5,9 @@ use mathlib.Core.List.{List}
 use lib.Dec.{eqb}
 use lib.ListN.{length}
 use lib.Ieee.{Float}
-use lib.Ieee.Scale.{finite}
 use Rattle.seq.specs.Choice.{pick, orElse}
-use Rattle.seq.specs.Sums.{plusZero, at}
-use Rattle.limits.specs.Limits.{tooLarge, scratchShort, bounded}
-use Rattle.seq.specs.Keep.{allTo}
+use Rattle.seq.specs.Sums.{plusZero}
+use Rattle.limits.specs.Limits.{tooLarge, scratchShort, bounded, allFinite}
 use Rattle.ieee.specs.Constants.{one}
 use Rattle.weights.specs.Weights.{l1Of, sound}
 use Rattle.rules.specs.Rules.{ruleFault}
@@ -27,7 +25,7 @@ sizeFault m n matrix weights output numbers indices =
 unfoldable pub valueFault : List Float → List Float → ℕ
 valueFault u w =
     pick (bounded one u)
-    (pick (allTo (λ j. finite (at w j)) (length w))
+    (pick (allFinite w)
     (pick (sound (l1Of plusZero w)) 0 9) 8) 7
 
 -- the first of all

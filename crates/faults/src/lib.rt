@@ -1,16 +1,13 @@
 // What a job is refused for before any work is done.
 use ieee::is_finite;
 use limits::all_bounded;
+use limits::all_finite;
 use limits::scratch_short;
 use limits::too_large;
 use rules::Rule;
 use rules::rule_fault;
 use weights::l1;
 ghost use mathlib.Core.Path.{_≡_};
-ghost use lib.ListN.{length};
-ghost use lib.Ieee.Scale.{finite};
-ghost use Rattle.seq.specs.Sums.{at};
-ghost use Rattle.seq.specs.Keep.{allTo};
 ghost use Rattle.faults.specs.Faults.{sizeFault, valueFault, jobFault};
 
 // 3 to 6, of the sizes.
@@ -48,19 +45,6 @@ fn size_fault(
     } else {
         0
     }
-}
-
-// Whether every weight is finite.
-fn all_finite(w: &[f64]) -> bool
-    ensures { λ r. ⌜ r ≡ allTo (λ j. finite (at (now (w .entry)) j)) (length (now (w .entry))) ⌝ }
-{
-    let mut ok = true;
-    let mut j = 0usize;
-    while j < w.len() {
-        ok = ok & is_finite(w[j]);
-        j += 1;
-    }
-    ok
 }
 
 // 7 to 9, of the values.

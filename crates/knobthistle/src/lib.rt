@@ -81,7 +81,7 @@ pub extern "C" fn knob_max_margin_change(
     a.number
 }
 
-// How many words turn, written to `count`; the number.
+// How many words turn at their thresholds, written to `count`; the number.
 #[no_mangle]
 pub extern "C" fn knob_turned_words(
     matrix: &[f64],
@@ -89,11 +89,14 @@ pub extern "C" fn knob_turned_words(
     n: usize,
     before: &[f64],
     after: &[f64],
+    thresholds: &[f64],
     count: &mut u64,
 ) -> u64
-    ensures { λ r. ⌜ (r ≡ turnedAnswer (now (matrix .entry)) m n (now (before .entry)) (now (after .entry)) .number) × (now (count .exit) ≡ turnedAnswer (now (matrix .entry)) m n (now (before .entry)) (now (after .entry)) .count) ⌝ }
+    ensures { λ r. ⌜ (r ≡ turnedAnswer (now (matrix .entry)) m n (now (before .entry)) (now (after .entry)) (now (thresholds .entry)) .number)
+        × (now (count .exit) ≡ turnedAnswer (now (matrix .entry)) m n (now (before .entry)) (now (after .entry))
+        (now (thresholds .entry)) .count) ⌝ }
 {
-    let a = turned_words(matrix, m, n, before, after);
+    let a = turned_words(matrix, m, n, before, after, thresholds);
     *count = a.count;
     a.number
 }

@@ -5,6 +5,7 @@ use mathlib.Core.List.{List}
 use lib.Dec.{ltb}
 use lib.ListN.{length}
 use lib.Ieee.{Float, le}
+use lib.Ieee.Scale.{finite}
 use Rattle.seq.specs.Sums.{at}
 use Rattle.seq.specs.Keep.{allTo}
 use Rattle.ieee.specs.Magnitude.{absOf}
@@ -28,3 +29,7 @@ scratchShort m n numbers indices = ltb numbers (numbersNeeded m n) || ltb indice
 -- every entry is at most so large in magnitude; a NaN is not
 abbrev pub bounded : Float → List Float → Bool
 bounded most u = allTo (λ i. le (absOf (at u i)) most) (length u)
+
+-- every number of a list is finite
+abbrev pub allFinite : List Float → Bool
+allFinite v = allTo (λ i. finite (at v i)) (length v)

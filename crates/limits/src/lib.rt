@@ -1,8 +1,9 @@
 // Sizes, and what is refused for them.
 use ieee::abs;
+use ieee::is_finite;
 ghost use mathlib.Core.Path.{_≡_};
 ghost use Prim.Native.Nat.{_≤_};
-ghost use Rattle.limits.specs.Limits.{tooLarge, scratchShort, bounded};
+ghost use Rattle.limits.specs.Limits.{tooLarge, scratchShort, bounded, allFinite};
 
 // Whether there are more than 256 columns or 4096 rows.
 pub fn too_large(m: usize, n: usize) -> bool
@@ -27,6 +28,19 @@ pub fn all_bounded(u: &[f64], most: f64) -> bool
     let mut i = 0usize;
     while i < u.len() {
         ok = ok & (abs(u[i]) <= most);
+        i += 1;
+    }
+    ok
+}
+
+// Whether every number of a list is finite.
+pub fn all_finite(v: &[f64]) -> bool
+    ensures { λ r. ⌜ r ≡ allFinite (now (v .entry)) ⌝ }
+{
+    let mut ok = true;
+    let mut i = 0usize;
+    while i < v.len() {
+        ok = ok & is_finite(v[i]);
         i += 1;
     }
     ok

@@ -39,7 +39,11 @@ module _ (u : List Float) (n : ℕ) where
   margins-more w from j l block e =
       rw (e, length-tab (λ i. marginAt (columnsOf u n) j w (from + i)) l)
       (tab-cong _ _ l (λ i h.
-      rw (getD-tab (λ i. marginAt (columnsOf u n) j w (from + i)) l i nan h, row-at j from l i h, sum-more binary64 plusZero (λ q. mul binary64 (columnsOf u n q (from + i)) (at w q)) j)))
+      rw (
+        getD-tab (λ i. marginAt (columnsOf u n) j w (from + i)) l i nan h,
+        row-at j from l i h,
+        sum-more binary64 plusZero (λ q. mul binary64 (columnsOf u n q (from + i)) (at w q)) j,
+      )))
 
   module _ (before after : List Float) (from j l : ℕ) (block : List Float)
       (so-far : block ≡ tabulate (λ i. changeTo (columnsOf u n) before after (from + i) j) l) where

@@ -2,5 +2,6 @@
 pub mod Stretches
 pub mod Columns
 pub mod Refusals
+pub mod OldCount
 pub mod Unique
 pub mod SmallCase

@@ -10,12 +10,12 @@ use lib.ListN.{length}
 use lib.Ieee.{Float}
 use Rattle.seq.specs.Choice.{pick}
 use Rattle.seq.specs.Sums.{plusZero}
-use Rattle.limits.specs.Limits.{tooLarge}
+use Rattle.limits.specs.Limits.{tooLarge, allFinite}
 use Rattle.limits.proofs.Sizes.{small}
 use Rattle.limits.specs.Matrix.{columnsOf}
 use Rattle.margins.specs.Margins.{maxChange, turnedCount}
-use Rattle.margins.specs.Answers.{marginFault, changeAnswer, turnedAnswer}
-use Rattle.margins.specs.Blocks.{Lent}
+use Rattle.margins.specs.Answers.{marginFault, changeAnswer, thresholdFault, turnedAnswer}
+use Rattle.margins.specs.Blocks.{Compared}
 use Rattle.margins.specs.declared.Change.{Change}
 use Rattle.margins.specs.declared.Turned.{Turned}
 
@@ -52,7 +52,7 @@ module _ (u : List Float) (m n : ℕ) (before after : List Float) where
   -- what follows from the number, and the answers on the two ways out
   module _ (number : ℕ) (is : number ≡ marginFault u m n before after) where
     -- what is not refused is of the sizes that are taken
-    pub taken-sizes : number ≡ 0 → Lent u (length before) n × (length before ≡ m) × (length after ≡ length before)
+    pub taken-sizes : number ≡ 0 → Compared u n before after × (length before ≡ m)
     unfolding marginFault
     taken-sizes h =
         let p = passed (tooLarge m n) (eqb (length u) (m * n)) (eqb (length before) m) (eqb (length after) m) (sym is ∙ h) in
@@ -60,7 +60,7 @@ module _ (u : List Float) (m n : ℕ) (before after : List Float) where
         let w = eqb-true (length u) (m * n) (p .1) in
         let b = eqb-true (length before) m (p .2) in
         let a = eqb-true (length after) m (p .3) in
-        (rw b (record { whole = w; few = s .columns; short = s .rows }), b, omega arith)
+        ((rw b (record { whole = w; few = s .columns; short = s .rows }), omega arith), b)
 
     pub change-refused : (number ≡ 0 → ⊥) → _≡_ {A = Change} (record { number = number; change = plusZero }) (changeAnswer u m n before after)
     unfolding changeAnswer
@@ -71,11 +71,39 @@ module _ (u : List Float) (m n : ℕ) (before after : List Float) where
     unfolding changeAnswer
     change-taken h r e b = rw (← is, eq-eqb number 0 h, ← b, e)
 
-    pub turned-refused : (number ≡ 0 → ⊥) → _≡_ {A = Turned} (record { number = number; count = 0 }) (turnedAnswer u m n before after)
-    unfolding turnedAnswer
-    turned-refused h = rw (← is, ne-eqb number 0 h)
+    -- turned words: refused by the sizes, by the thresholds, or counted
+    module _ (thresholds : List Float) where
+      pub turned-refused : (number ≡ 0 → ⊥)
+          → _≡_ {A = Turned} (record { number = number; count = 0 }) (turnedAnswer u m n before after thresholds)
+      unfolding turnedAnswer
+      turned-refused h = rw (← is, ne-eqb number 0 h, ne-eqb number 0 h)
 
-    pub turned-taken : number ≡ 0 → (r : ℕ) → r ≡ turnedCount (columnsOf u n) (length before) n before after → length before ≡ m
-        → _≡_ {A = Turned} (record { number = number; count = r }) (turnedAnswer u m n before after)
-    unfolding turnedAnswer
-    turned-taken h r e b = rw (← is, eq-eqb number 0 h, ← b, e)
+      pub turned-refused-last : number ≡ 0 → (last : ℕ) → last ≡ thresholdFault n thresholds → (last ≡ 0 → ⊥)
+          → _≡_ {A = Turned} (record { number = last; count = 0 }) (turnedAnswer u m n before after thresholds)
+      unfolding turnedAnswer
+      turned-refused-last h last e g = rw (← is, eq-eqb number 0 h, ← e, ne-eqb last 0 g)
+
+      pub turned-taken : number ≡ 0 → thresholdFault n thresholds ≡ 0 → (r : ℕ)
+          → r ≡ turnedCount (columnsOf u n) (length before) n before after thresholds → length before ≡ m
+          → _≡_ {A = Turned} (record { number = 0; count = r }) (turnedAnswer u m n before after thresholds)
+      unfolding turnedAnswer
+      turned-taken h e r k b = rw (← is, eq-eqb number 0 h, e, ← b, k)
+
+module _ (n : ℕ) (thresholds : List Float) where
+  pub thresholds-long : (length thresholds ≡ n → ⊥) → 4 ≡ thresholdFault n thresholds
+  unfolding thresholdFault
+  thresholds-long h = rw (ne-eqb (length thresholds) n h)
+
+  pub thresholds-tested : length thresholds ≡ n → (fine : Bool) → fine ≡ allFinite thresholds
+      → pick fine 0 8 ≡ thresholdFault n thresholds
+  unfolding thresholdFault
+  thresholds-tested h fine e = rw (eq-eqb (length thresholds) n h, e)
+
+  pub thresholds-fit : thresholdFault n thresholds ≡ 0 → length thresholds ≡ n
+  unfolding thresholdFault
+  thresholds-fit e = go (eqb (length thresholds) n) refl e
+    where
+      go : (t : Bool) → eqb (length thresholds) n ≡ t → _≡_ {A = ℕ} (pick (not t) 4 (pick (allFinite thresholds) 0 8)) 0
+          → length thresholds ≡ n
+      go true is e = eqb-true (length thresholds) n is
+      go false is e = absurd (omega arith)

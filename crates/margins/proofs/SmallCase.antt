@@ -1,4 +1,5 @@
--- The definitions on a case small enough to follow by hand: two rows, columns (1, 1) and (1, -1), weights 0.5, 0.5 to 1, 0. The first row's margin stays, the second's falls by 1. Each law computes.
+-- The definitions on a case small enough to follow by hand: two rows, columns (1, 1) and (1, -1), weights 0.5, 0.5 to 1, 0. The first row's margin stays,
+-- the second's falls by 1. Each law computes.
 use mathlib.Core.Path.{_≡_, refl}
 use mathlib.Core.List.{List, [], _∷_}
 use lib.Ieee.{Float, binary64, ofBits, isNan, lt, ne, sub, mul}

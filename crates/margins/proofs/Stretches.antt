@@ -1,7 +1,8 @@
--- Laws of a stretch of rows: the largest magnitude and the count over a + b rows go on from those over a rows, and the array that holds a block gives back what was written to it.
+-- Laws of a stretch of rows: the largest magnitude and the count over a + b rows go on from those over a rows, and the array that holds a block gives back
+-- what was written to it.
 use Prim.Native.Nat.{ℕ, zero, suc, _+_, _≤_, _<_}
 use mathlib.Core.Path.{_≡_, refl}
-use mathlib.Core.Bool.{Bool, true, false}
+use mathlib.Core.Bool.{Bool, true, false, not, _&&_, _||_, Bool·beq}
 use mathlib.Core.List.{List, _++_}
 use native.Mathlib.Nat.{add-zero, add-suc}
 use native.Mathlib.Decide.{decLt}
@@ -9,16 +10,18 @@ use native.Mathlib.Omega.{arith}
 use native.Mathlib.Numerals.{add-one}
 use lib.ListN.{length, take, drop}
 use lib.Seq.{length-take-le, length-front, take-at}
-use lib.Ieee.{Float, nan}
+use lib.Ieee.{Float, nan, lt}
 use Rattle.seq.specs.Choice.{pick}
 use Rattle.seq.specs.Lists.{tabulate}
 use Rattle.seq.specs.Sums.{at}
 use Rattle.seq.specs.Keep.{count}
+use Rattle.seq.specs.Lists.{part}
 use Rattle.seq.proofs.Filling.{length-tab, getD-tab}
+use Rattle.seq.proofs.Parts.{getD-part}
 use Rattle.seq.proofs.Keeping.{keep-short, length-keep}
 use Rattle.ieee.specs.Magnitude.{maxAbsTo}
 use Rattle.margins.specs.Margins.{turns}
-use Rattle.margins.specs.Blocks.{maxAbsFrom}
+use Rattle.margins.specs.Blocks.{maxAbsFrom, turnedIn}
 
 -- the largest of a + b rows is that of the b rows after the first a, from that of the first a
 pub max-parts : (v : ℕ → Float) (a b : ℕ) → maxAbsTo v (a + b) ≡ maxAbsFrom (maxAbsTo v a) (λ i. v (a + i)) b
@@ -56,19 +59,37 @@ max-block v a b most block e k =
     rw (max-parts v a b, k, length-tab (λ i. v (a + i)) b, e)
     (max-cong (maxAbsTo v a) (at (tabulate (λ i. v (a + i)) b)) (λ i. v (a + i)) b (λ i h. getD-tab (λ i. v (a + i)) b i nan h))
 
--- two blocks with the margins from a on add what turns in them to what turned before
-pub count-block : (v w : ℕ → Float) (a b : ℕ) (was is : List Float)
+-- two blocks with the margins from a on, and the thresholds of these rows, add what turns in them to what turned before
+pub count-block : (thresholds : List Float) (v w : ℕ → Float) (a b : ℕ) (was is : List Float)
     → was ≡ tabulate (λ i. v (a + i)) b → is ≡ tabulate (λ i. w (a + i)) b
-    → count (λ i. turns (v i) (w i)) a + count (λ i. turns (at was i) (at is i)) (length was) ≡ count (λ i. turns (v i) (w i)) (a + b)
-count-block v w a b was is e k =
+    → count (λ i. turns (at thresholds i) (v i) (w i)) a + turnedIn was is (part a b thresholds)
+    ≡ count (λ i. turns (at thresholds i) (v i) (w i)) (a + b)
+count-block thresholds v w a b was is e k =
+    let first : List Float = tabulate (λ i. v (a + i)) b in
+    let second : List Float = tabulate (λ i. w (a + i)) b in
     rw (
-      count-parts (λ i. turns (v i) (w i)) a b,
+      count-parts (λ i. turns (at thresholds i) (v i) (w i)) a b,
       e,
       k,
       length-tab (λ i. v (a + i)) b,
-      count-cong (λ i. turns (at (tabulate (λ i. v (a + i)) b) i) (at (tabulate (λ i. w (a + i)) b) i)) (λ i. turns (v (a + i)) (w (a + i))) b
-          (λ i h. rw (getD-tab (λ i. v (a + i)) b i nan h, getD-tab (λ i. w (a + i)) b i nan h)),
+      count-cong (λ i. turns (at (part a b thresholds) i) (at first i) (at second i))
+          (λ i. turns (at thresholds (a + i)) (v (a + i)) (w (a + i))) b
+          (λ i h. rw (
+            getD-part a b i thresholds nan h,
+            getD-tab (λ i. v (a + i)) b i nan h,
+            getD-tab (λ i. w (a + i)) b i nan h,
+          )),
     )
+
+-- a row turns where the two tests differ
+pub differ : (threshold before after : Float) → turns threshold before after ≡ not (Bool·beq (lt threshold before) (lt threshold after))
+differ t b a = go (lt t b) (lt t a)
+  where
+    go : (p q : Bool) → ((p && not q) || (q && not p)) ≡ not (Bool·beq p q)
+    go true true = refl
+    go true false = refl
+    go false true = refl
+    go false false = refl
 
 -- the two ways of a turn
 pub counts : (f : ℕ → Bool) (i : ℕ) → f i ≡ true → count f i + 1 ≡ count f (i + 1)
@@ -92,7 +113,8 @@ pub count-short : (f : ℕ → Bool) (k r : ℕ) → r ≡ count f k → r ≤ k
 count-short f k r e = omega (arith, length-keep f k, keep-short f k)
 
 -- what was written to the front of an array is read from it
-pub front-back : (k : ℕ) (old new : List Float) (f : ℕ → Float) → k ≤ length old → new ≡ tabulate f (length (take k old)) → take k (new ++ drop k old) ≡ tabulate f k
+pub front-back : (k : ℕ) (old new : List Float) (f : ℕ → Float) → k ≤ length old → new ≡ tabulate f (length (take k old)) → take k
+    (new ++ drop k old) ≡ tabulate f k
 front-back k old new f h e =
     let l : length (take k old) ≡ k = length-take-le k old h in
     let n : new ≡ tabulate f k = rw l at e in

@@ -1,4 +1,4 @@
--- Each of the two contracts is an equation, so it has one answer: a second record that answers the same call is equal to the first. The proof is that alone.
+-- Each contract is an equation, so it has one answer: a second record that answers the same call is equal to the first. The proof is that alone.
 use Prim.Native.Nat.{ℕ}
 use mathlib.Core.Path.{_≡_, sym, _∙_}
 use mathlib.Core.List.{List}
@@ -11,5 +11,6 @@ module _ (u : List Float) (m n : ℕ) (before after : List Float) where
   pub change-unique : (r s : Change) → r ≡ changeAnswer u m n before after → s ≡ changeAnswer u m n before after → r ≡ s
   change-unique r s p q = p ∙ sym q
 
-  pub turned-unique : (r s : Turned) → r ≡ turnedAnswer u m n before after → s ≡ turnedAnswer u m n before after → r ≡ s
-  turned-unique r s p q = p ∙ sym q
+  pub turned-unique : (thresholds : List Float) (r s : Turned)
+      → r ≡ turnedAnswer u m n before after thresholds → s ≡ turnedAnswer u m n before after thresholds → r ≡ s
+  turned-unique thresholds r s p q = p ∙ sym q

@@ -1,13 +1,13 @@
--- What the two public calls answer for every argument.
+-- What the public calls answer for every argument.
 use Prim.Native.Nat.{ℕ, _*_}
 use mathlib.Core.Bool.{not, _||_}
 use mathlib.Core.List.{List}
 use lib.Dec.{eqb}
 use lib.ListN.{length}
 use lib.Ieee.{Float}
-use Rattle.seq.specs.Choice.{pick}
+use Rattle.seq.specs.Choice.{pick, orElse}
 use Rattle.seq.specs.Sums.{plusZero}
-use Rattle.limits.specs.Limits.{tooLarge}
+use Rattle.limits.specs.Limits.{tooLarge, allFinite}
 use Rattle.limits.specs.Matrix.{columnsOf}
 use Rattle.margins.specs.Margins.{maxChange, turnedCount}
 use Rattle.margins.specs.declared.Change.{Change}
@@ -25,8 +25,16 @@ changeAnswer u m n before after =
     let number : ℕ = marginFault u m n before after in
     record { number = number; change = pick (eqb number 0) (maxChange (columnsOf u n) m n before after) plusZero }
 
+-- of the thresholds, one a row: 4 another length than n, 8 one that is not finite
+unfoldable pub thresholdFault : ℕ → List Float → ℕ
+thresholdFault n thresholds = pick (not (eqb (length thresholds) n)) 4 (pick (allFinite thresholds) 0 8)
+
+-- the first of both that is given
+abbrev pub turnedFault : List Float → ℕ → ℕ → List Float → List Float → List Float → ℕ
+turnedFault u m n before after thresholds = orElse (marginFault u m n before after) (thresholdFault n thresholds)
+
 -- the number, and the count where it is 0
-unfoldable pub turnedAnswer : List Float → ℕ → ℕ → List Float → List Float → Turned
-turnedAnswer u m n before after =
-    let number : ℕ = marginFault u m n before after in
-    record { number = number; count = pick (eqb number 0) (turnedCount (columnsOf u n) m n before after) 0 }
+unfoldable pub turnedAnswer : List Float → ℕ → ℕ → List Float → List Float → List Float → Turned
+turnedAnswer u m n before after thresholds =
+    let number : ℕ = turnedFault u m n before after thresholds in
+    record { number = number; count = pick (eqb number 0) (turnedCount (columnsOf u n) m n before after thresholds) 0 }

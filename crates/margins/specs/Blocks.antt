@@ -1,11 +1,13 @@
--- What the functions on blocks of rows say to each other.
+-- Told between functions: what the functions on blocks of rows say to each other.
 use Prim.Native.Nat.{ℕ, zero, suc, _*_, _≤_}
 use mathlib.Core.Path.{_≡_}
 use mathlib.Core.List.{List}
 use lib.ListN.{length}
 use lib.Ieee.{Float, binary64, add, mul}
 use Rattle.seq.specs.Sums.{at}
+use Rattle.seq.specs.Keep.{count}
 use Rattle.ieee.specs.Magnitude.{absOf, largerOf}
+use Rattle.margins.specs.Margins.{turns}
 
 -- acc + column s
 abbrev pub plusAt : List Float → Float → List Float → ℕ → Float
@@ -16,8 +18,16 @@ unfoldable pub maxAbsFrom : Float → (ℕ → Float) → ℕ → Float
 maxAbsFrom s v zero = s
 maxAbsFrom s v (suc k) = largerOf (maxAbsFrom s v k) (absOf (v k))
 
+-- how many rows of two blocks turn
+abbrev pub turnedIn : List Float → List Float → List Float → ℕ
+turnedIn before after thresholds = count (λ i. turns (at thresholds i) (at before i) (at after i)) (length before)
+
 -- a matrix of m columns of n rows, of the sizes that are taken
 pub record Lent (u : List Float) (m n : ℕ) : Type 0 where
   pub whole : length u ≡ m * n
   pub few : m ≤ 256
   pub short : n ≤ 4096
+
+-- two weight vectors for its columns
+abbrev pub Compared : List Float → ℕ → List Float → List Float → Type 0
+Compared u n before after = Lent u (length before) n × (length after ≡ length before)

@@ -1,7 +1,8 @@
--- The change of the margins between two weight vectors, measured at the worst row, and the rows whose margin turns from above 0 to below.
+-- The change of the margins between two weight vectors, measured at the worst row, and the rows whose margin changes sides of its
+-- threshold.
 -- A matrix is a function of the column and the row.
 use Prim.Native.Nat.{ℕ, zero, suc}
-use mathlib.Core.Bool.{Bool, _&&_}
+use mathlib.Core.Bool.{Bool, not, _&&_, _||_}
 use mathlib.Core.List.{List}
 use lib.Ieee.{Float, binary64, add, sub, mul, ne, lt}
 use Rattle.seq.specs.Choice.{pick}
@@ -25,10 +26,14 @@ maxChange u m n before after = maxAbsTo (λ i. changeTo u before after i m) n
 abbrev pub marginAt : (ℕ → ℕ → Float) → ℕ → List Float → ℕ → Float
 marginAt u m w i = sumTo plusZero (λ j. mul binary64 (u j i) (at w j)) m
 
--- a margin that was above 0 is below 0
-abbrev pub turns : Float → Float → Bool
-turns before after = lt plusZero before && lt after plusZero
+-- A margin was above the threshold and is not, or is and was not. A NaN is above nothing.
+abbrev pub turns : Float → Float → Float → Bool
+turns threshold before after = (lt threshold before && not (lt threshold after)) || (lt threshold after && not (lt threshold before))
+
+-- row i turns, at its own threshold
+abbrev pub turnsAt : (ℕ → ℕ → Float) → ℕ → List Float → List Float → List Float → ℕ → Bool
+turnsAt u m before after thresholds i = turns (at thresholds i) (marginAt u m before i) (marginAt u m after i)
 
 -- how many of the n rows turn
-unfoldable pub turnedCount : (ℕ → ℕ → Float) → ℕ → ℕ → List Float → List Float → ℕ
-turnedCount u m n before after = count (λ i. turns (marginAt u m before i) (marginAt u m after i)) n
+unfoldable pub turnedCount : (ℕ → ℕ → Float) → ℕ → ℕ → List Float → List Float → List Float → ℕ
+turnedCount u m n before after thresholds = count (turnsAt u m before after thresholds) n

@@ -1,18 +1,18 @@
 // How far margins move between two weight vectors, and which words turn. Rows are taken 64 at a time, column by column, so that no scratch is needed.
 use ieee::abs;
 use ieee::larger;
+use limits::all_finite;
 use limits::too_large;
 use seq::clear;
 ghost use mathlib.Core.Path.{_≡_};
-ghost use Prim.Native.Nat.{ℕ, _≤_, _*_, _+_};
+ghost use Prim.Native.Nat.{_≤_, _*_, _+_};
 ghost use lib.ListN.{length};
 ghost use Rattle.seq.specs.Lists.{tabulate};
 ghost use Rattle.seq.specs.Sums.{at};
-ghost use Rattle.seq.specs.Keep.{count};
 ghost use Rattle.limits.specs.Matrix.{columnsOf};
-ghost use Rattle.margins.specs.Margins.{changeTo, maxChange, marginAt, turns, turnedCount};
-ghost use Rattle.margins.specs.Answers.{marginFault, changeAnswer, turnedAnswer};
-ghost use Rattle.margins.specs.Blocks.{plusAt, maxAbsFrom, Lent};
+ghost use Rattle.margins.specs.Margins.{changeTo, maxChange, marginAt, turnedCount};
+ghost use Rattle.margins.specs.Answers.{marginFault, changeAnswer, thresholdFault, turnedAnswer};
+ghost use Rattle.margins.specs.Blocks.{plusAt, maxAbsFrom, turnedIn, Lent, Compared};
 
 // block + s times the column's rows.
 fn add_scaled(block: &mut [f64], column: &[f64], s: f64)
@@ -35,8 +35,9 @@ fn changes_into(
     before: &[f64],
     after: &[f64],
 )
-    requires { ⌜ Lent (now matrix) (length (now before)) n × (length (now after) ≡ length (now before)) × (from + length (now block) ≤ n) ⌝ }
-    ensures { λ _. ⌜ now (block .exit) ≡ tabulate (λ i. changeTo (columnsOf (now (matrix .entry)) n) (now (before .entry)) (now (after .entry)) (from + i) (length (now (before .entry)))) (length (now (block .entry))) ⌝ }
+    requires { ⌜ Compared (now matrix) n (now before) (now after) × (from + length (now block) ≤ n) ⌝ }
+    ensures { λ _. ⌜ now (block .exit) ≡ tabulate (λ i. changeTo (columnsOf (now (matrix .entry)) n) (now (before .entry))
+        (now (after .entry)) (from + i) (length (now (before .entry)))) (length (now (block .entry))) ⌝ }
 {
     clear(&mut block[..]);
     let mut j = 0usize;
@@ -54,7 +55,8 @@ fn changes_into(
 // The margins of the rows from `from` on.
 fn margins_into(block: &mut [f64], from: usize, matrix: &[f64], n: usize, weights: &[f64])
     requires { ⌜ Lent (now matrix) (length (now weights)) n × (from + length (now block) ≤ n) ⌝ }
-    ensures { λ _. ⌜ now (block .exit) ≡ tabulate (λ i. marginAt (columnsOf (now (matrix .entry)) n) (length (now (weights .entry))) (now (weights .entry)) (from + i)) (length (now (block .entry))) ⌝ }
+    ensures { λ _. ⌜ now (block .exit) ≡ tabulate (λ i. marginAt (columnsOf (now (matrix .entry)) n)
+        (length (now (weights .entry))) (now (weights .entry)) (from + i)) (length (now (block .entry))) ⌝ }
 {
     clear(&mut block[..]);
     let mut j = 0usize;
@@ -80,15 +82,17 @@ fn largest_from(most: f64, block: &[f64]) -> f64
     r
 }
 
-// How many rows of two blocks turn.
-fn count_turned(before: &[f64], after: &[f64]) -> usize
-    requires { ⌜ length (now after) ≡ length (now before) ⌝ }
-    ensures { λ r. ⌜ r ≡ count (λ i. turns (at (now (before .entry)) i) (at (now (after .entry)) i)) (length (now (before .entry))) ⌝ }
+// How many rows of two blocks turn, each at its threshold.
+fn count_turned(before: &[f64], after: &[f64], thresholds: &[f64]) -> usize
+    requires { ⌜ (length (now after) ≡ length (now before)) × (length (now thresholds) ≡ length (now before)) ⌝ }
+    ensures { λ r. ⌜ r ≡ turnedIn (now (before .entry)) (now (after .entry)) (now (thresholds .entry)) ⌝ }
 {
     let mut k = 0usize;
     let mut i = 0usize;
     while i < before.len() {
-        if before[i] > 0.0 && after[i] < 0.0 {
+        let was = before[i] > thresholds[i];
+        let is = after[i] > thresholds[i];
+        if was != is {
             k += 1;
         }
         i += 1;
@@ -106,8 +110,9 @@ fn block_length(from: usize, n: usize) -> usize
 
 // The largest change of a margin.
 pub fn change_of(matrix: &[f64], n: usize, before: &[f64], after: &[f64]) -> f64
-    requires { ⌜ Lent (now matrix) (length (now before)) n × (length (now after) ≡ length (now before)) ⌝ }
-    ensures { λ r. ⌜ r ≡ maxChange (columnsOf (now (matrix .entry)) n) (length (now (before .entry))) n (now (before .entry)) (now (after .entry)) ⌝ }
+    requires { ⌜ Compared (now matrix) n (now before) (now after) ⌝ }
+    ensures { λ r. ⌜ r ≡ maxChange (columnsOf (now (matrix .entry)) n) (length (now (before .entry))) n
+        (now (before .entry)) (now (after .entry)) ⌝ }
 {
     let mut block = [0.0f64; 64];
     let mut most = 0.0;
@@ -122,9 +127,10 @@ pub fn change_of(matrix: &[f64], n: usize, before: &[f64], after: &[f64]) -> f64
 }
 
 // How many words turn.
-fn turned_of(matrix: &[f64], n: usize, before: &[f64], after: &[f64]) -> usize
-    requires { ⌜ Lent (now matrix) (length (now before)) n × (length (now after) ≡ length (now before)) ⌝ }
-    ensures { λ r. ⌜ r ≡ turnedCount (columnsOf (now (matrix .entry)) n) (length (now (before .entry))) n (now (before .entry)) (now (after .entry)) ⌝ }
+fn turned_of(matrix: &[f64], n: usize, before: &[f64], after: &[f64], thresholds: &[f64]) -> usize
+    requires { ⌜ Compared (now matrix) n (now before) (now after) × (length (now thresholds) ≡ n) ⌝ }
+    ensures { λ r. ⌜ r ≡ turnedCount (columnsOf (now (matrix .entry)) n) (length (now (before .entry))) n
+        (now (before .entry)) (now (after .entry)) (now (thresholds .entry)) ⌝ }
 {
     let mut was = [0.0f64; 64];
     let mut is = [0.0f64; 64];
@@ -132,10 +138,11 @@ fn turned_of(matrix: &[f64], n: usize, before: &[f64], after: &[f64]) -> usize
     let mut from = 0usize;
     while from < n {
         let k = block_length(from, n);
+        let e = from + k;
         margins_into(&mut was[..k], from, matrix, n, before);
         margins_into(&mut is[..k], from, matrix, n, after);
-        turned += count_turned(&was[..k], &is[..k]);
-        from += k;
+        turned += count_turned(&was[..k], &is[..k], &thresholds[from..e]);
+        from = e;
     }
     turned
 }
@@ -193,16 +200,40 @@ pub struct Turned {
     pub count: u64,
 }
 
-// The number of words whose margin is above 0 before and below 0 after.
-pub fn turned_words(matrix: &[f64], m: usize, n: usize, before: &[f64], after: &[f64]) -> Turned
-    ensures { λ r. ⌜ r ≡ turnedAnswer (now (matrix .entry)) m n (now (before .entry)) (now (after .entry)) ⌝ }
+// 4 or 8, of the thresholds, or 0.
+fn threshold_fault(n: usize, thresholds: &[f64]) -> u64
+    ensures { λ r. ⌜ r ≡ thresholdFault n (now (thresholds .entry)) ⌝ }
+{
+    if thresholds.len() != n {
+        return 4;
+    }
+    if all_finite(thresholds) { 0 } else { 8 }
+}
+
+// The number of words whose margin is above the word's threshold before and not after, or after and not before.
+pub fn turned_words(
+    matrix: &[f64],
+    m: usize,
+    n: usize,
+    before: &[f64],
+    after: &[f64],
+    thresholds: &[f64],
+) -> Turned
+    ensures { λ r. ⌜ r ≡ turnedAnswer (now (matrix .entry)) m n (now (before .entry)) (now (after .entry)) (now (thresholds .entry)) ⌝ }
 {
     let number = margin_fault(matrix, m, n, before, after);
     if number != 0 {
         return Turned { number, count: 0 };
     }
+    let last = threshold_fault(n, thresholds);
+    if last != 0 {
+        return Turned {
+            number: last,
+            count: 0,
+        };
+    }
     Turned {
-        number,
-        count: turned_of(matrix, n, before, after) as u64,
+        number: 0,
+        count: turned_of(matrix, n, before, after, thresholds) as u64,
     }
 }

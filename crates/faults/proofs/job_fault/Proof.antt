@@ -9,31 +9,36 @@ rule-fault-requires c κs = search needs
 
 returns : tie.Need-returns
 returns c =
-    let c4 = c .before .before .before .before in
-    rule-refused (c4 .args .rule) (c4 .args .matrix .now) (c4 .args .m) (c4 .args .n) (c4 .args .weights .now) (c4 .args .output) (c4 .args .numbers) (c4 .args .indices) (c .before .rule-fault .ensures) (c .if1 .taken)
+    let at-start = c .before .before .before .before in
+    rule-refused (at-start .args .rule) (at-start .args .matrix .now) (at-start .args .m) (at-start .args .n)
+    (at-start .args .weights .now) (at-start .args .output) (at-start .args .numbers) (at-start .args .indices)
+    (c .before .rule-fault .ensures) (c .if1 .taken)
 
 size-fault-requires : tie.Need-size-fault-requires
 size-fault-requires c κs = search needs
 
 returns-2 : tie.Need-returns-2
 returns-2 c =
-    let c2 = c .before .before in
-    let c2 = c2 in
-    let c3 = c2 .before in
-    let c6 = c3 .before .before .before in
-    sizes-refused (c6 .args .rule) (c6 .args .matrix .now) (c6 .args .m) (c6 .args .n) (c6 .args .weights .now) (c6 .args .output) (c6 .args .numbers) (c6 .args .indices) (c3 .rule-fault .ensures) (c2 .if1 .left) (c .before .size-fault .ensures) (c .if2 .taken)
+    let at-if1 = c .before .before in
+    let at-rule-fault = at-if1 .before in
+    let at-start = at-rule-fault .before .before .before in
+    sizes-refused (at-start .args .rule) (at-start .args .matrix .now) (at-start .args .m) (at-start .args .n)
+    (at-start .args .weights .now) (at-start .args .output) (at-start .args .numbers) (at-start .args .indices)
+    (at-rule-fault .rule-fault .ensures) (at-if1 .if1 .left) (c .before .size-fault .ensures) (c .if2 .taken)
 
 value-fault-requires : tie.Need-value-fault-requires
 value-fault-requires c κs = search needs
 
 returns-3 : tie.Need-returns-3
 returns-3 c =
-    let c2 = c .before .before in
-    let c2 = c2 in
-    let c3 = c2 .before in
-    let c4 = c3 .before in
-    let c7 = c4 .before .before .before in
-    values-left (c7 .args .rule) (c7 .args .matrix .now) (c7 .args .m) (c7 .args .n) (c7 .args .weights .now) (c7 .args .output) (c7 .args .numbers) (c7 .args .indices) (c4 .rule-fault .ensures) (c3 .if1 .left) (c2 .size-fault .ensures) (c .before .if2 .left) (c .value-fault .ensures)
+    let at-size-fault = c .before .before in
+    let at-if1 = at-size-fault .before in
+    let at-rule-fault = at-if1 .before in
+    let at-start = at-rule-fault .before .before .before in
+    values-left (at-start .args .rule) (at-start .args .matrix .now) (at-start .args .m) (at-start .args .n)
+    (at-start .args .weights .now) (at-start .args .output) (at-start .args .numbers) (at-start .args .indices)
+    (at-rule-fault .rule-fault .ensures) (at-if1 .if1 .left) (at-size-fault .size-fault .ensures) (c .before .if2 .left)
+    (c .value-fault .ensures)
 
 pub job-fault-spec : {M : Type 1} → statement M
 job-fault-spec =

@@ -35,19 +35,27 @@ slice-aggregate-changes-into c = sym (length-take-le _ _ (omega arith))
 
 changes-into-requires : tie.Need-changes-into-requires Inv-loop μ-loop
 changes-into-requires c κs =
-    let c3 = c .before .before .before in
-    let c7 = c3 .before .before .before .before in
-    (c7 .pre .0, c7 .pre .1, rw (length-take-le (c .before .block-length .result) (c3 .loop .block) (omega arith)) (c .before .block-length .ensures .0))
+    let at-loop = c .before .before .before in
+    let at-start = at-loop .before .before .before .before in (
+      at-start .pre,
+      rw (length-take-le (c .before .block-length .result) (at-loop .loop .block) (omega arith))
+          (c .before .block-length .ensures .0),
+    )
 
 array-share-prefix-block : tie.Need-array-share-prefix-block Inv-loop μ-loop
-array-share-prefix-block c = omega (arith, length-front (c .before .before .before .before .before .loop .block) (c .before .changes-into .last .0) (c .before .before .before .block-length .result) (c .before .changes-into .kept .0))
+array-share-prefix-block c = omega (
+  arith,
+  length-front (c .before .before .before .before .before .loop .block) (c .before .changes-into .last .0)
+      (c .before .before .before .block-length .result) (c .before .changes-into .kept .0),
+)
 
 slice-aggregate-largest-from : tie.Need-slice-aggregate-largest-from Inv-loop μ-loop
 slice-aggregate-largest-from c =
-    let c2 = c .before .before in
-    let c4 = c2 .before .before in
-    let c6 = c4 .before .before in
-    sym (front-long (c4 .block-length .result) (c6 .loop .block) (c2 .changes-into .last .0) (omega arith) (c2 .changes-into .kept .0))
+    let at-changes-into = c .before .before in
+    let at-block-length = at-changes-into .before .before in
+    let at-loop = at-block-length .before .before in
+    sym (front-long (at-block-length .block-length .result) (at-loop .loop .block) (at-changes-into .changes-into .last .0)
+    (omega arith) (at-changes-into .changes-into .kept .0))
 
 largest-from-requires : tie.Need-largest-from-requires Inv-loop μ-loop
 largest-from-requires c κs = search needs
@@ -57,12 +65,12 @@ add-from c = search needs
 
 loop-less : tie.Need-loop-less Inv-loop μ-loop
 loop-less c =
-    let c5 = c .before .before .before .before .before in
-    let c6 = c5 .before in
-    let c7 = c6 .before in
-    let c11 = c7 .before .before .before .before in
-    let k = c5 .block-length in
-    omega (arith, some-rows (c7 .loop .from) (k .result) (c11 .args .n) (c6 .loop-test .taken) (k .ensures .2) (k .ensures .3))
+    let at-block-length = c .before .before .before .before .before in
+    let at-loop-test = at-block-length .before in
+    let at-loop = at-loop-test .before in
+    let at-start = at-loop .before .before .before .before in
+    let k = at-block-length .block-length in
+    omega (arith, some-rows (at-loop .loop .from) (k .result) (at-start .args .n) (at-loop-test .loop-test .taken) (k .ensures .2) (k .ensures .3))
 
 loop-again : tie.Need-loop-again Inv-loop μ-loop
 loop-again c =

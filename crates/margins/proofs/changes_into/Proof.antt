@@ -42,31 +42,51 @@ shared-slice-read-delta-2 c = search needs
 
 mul-a : tie.Need-mul-a Inv-loop μ-loop
 mul-a c =
-    let c3 = c .before .before .before in
-    let c4 = c3 .before in
-    let c13 = c4 .before .before .before .before .before .before .before .before .before in
-    omega (arith, inside (c4 .loop .j) (c13 .args .from) (length (c13 .args .block .now)) (c13 .pre .0) (c3 .loop-test .taken) (c13 .pre .2), small (c13 .pre .0))
+    let at-loop-test = c .before .before .before in
+    let at-loop = at-loop-test .before in
+    let at-start = at-loop .before .before .before .before .before .before .before .before .before in
+    omega (
+      arith,
+      inside (at-loop .loop .j) (at-start .args .from) (length (at-start .args .block .now)) (at-start .pre .0 .0)
+          (at-loop-test .loop-test .taken) (at-start .pre .1),
+      small (at-start .pre .0 .0),
+    )
 
 add-a : tie.Need-add-a Inv-loop μ-loop
 add-a c =
-    let c3 = c .before .before .before in
-    let c4 = c3 .before in
-    let c13 = c4 .before .before .before .before .before .before .before .before .before in
-    omega (arith, inside (c4 .loop .j) (c13 .args .from) (length (c13 .args .block .now)) (c13 .pre .0) (c3 .loop-test .taken) (c13 .pre .2), small (c13 .pre .0))
+    let at-loop-test = c .before .before .before in
+    let at-loop = at-loop-test .before in
+    let at-start = at-loop .before .before .before .before .before .before .before .before .before in
+    omega (
+      arith,
+      inside (at-loop .loop .j) (at-start .args .from) (length (at-start .args .block .now)) (at-start .pre .0 .0)
+          (at-loop-test .loop-test .taken) (at-start .pre .1),
+      small (at-start .pre .0 .0),
+    )
 
 add-e : tie.Need-add-e Inv-loop μ-loop
 add-e c =
-    let c3 = c .before .before .before in
-    let c4 = c3 .before in
-    let c13 = c4 .before .before .before .before .before .before .before .before .before in
-    omega (arith, inside (c4 .loop .j) (c13 .args .from) (length (c13 .args .block .now)) (c13 .pre .0) (c3 .loop-test .taken) (c13 .pre .2), small (c13 .pre .0))
+    let at-loop-test = c .before .before .before in
+    let at-loop = at-loop-test .before in
+    let at-start = at-loop .before .before .before .before .before .before .before .before .before in
+    omega (
+      arith,
+      inside (at-loop .loop .j) (at-start .args .from) (length (at-start .args .block .now)) (at-start .pre .0 .0)
+          (at-loop-test .loop-test .taken) (at-start .pre .1),
+      small (at-start .pre .0 .0),
+    )
 
 mul-add-scaled : tie.Need-mul-add-scaled Inv-loop μ-loop
 mul-add-scaled c =
-    let c4 = c .before .before .before .before in
-    let c5 = c4 .before in
-    let c14 = c5 .before .before .before .before .before .before .before .before .before in
-    omega (arith, inside (c5 .loop .j) (c14 .args .from) (length (c14 .args .block .now)) (c14 .pre .0) (c4 .loop-test .taken) (c14 .pre .2), small (c14 .pre .0))
+    let at-loop-test = c .before .before .before .before in
+    let at-loop = at-loop-test .before in
+    let at-start = at-loop .before .before .before .before .before .before .before .before .before in
+    omega (
+      arith,
+      inside (at-loop .loop .j) (at-start .args .from) (length (at-start .args .block .now)) (at-start .pre .0 .0)
+          (at-loop-test .loop-test .taken) (at-start .pre .1),
+      small (at-start .pre .0 .0),
+    )
 
 sub-add-scaled : tie.Need-sub-add-scaled Inv-loop μ-loop
 sub-add-scaled c = search needs
@@ -76,10 +96,15 @@ part-add-scaled-start c = search needs
 
 part-add-scaled-end : tie.Need-part-add-scaled-end Inv-loop μ-loop
 part-add-scaled-end c =
-    let c4 = c .before .before .before .before in
-    let c5 = c4 .before in
-    let c14 = c5 .before .before .before .before .before .before .before .before .before in
-    omega (arith, inside (c5 .loop .j) (c14 .args .from) (length (c14 .args .block .now)) (c14 .pre .0) (c4 .loop-test .taken) (c14 .pre .2), small (c14 .pre .0))
+    let at-loop-test = c .before .before .before .before in
+    let at-loop = at-loop-test .before in
+    let at-start = at-loop .before .before .before .before .before .before .before .before .before in
+    omega (
+      arith,
+      inside (at-loop .loop .j) (at-start .args .from) (length (at-start .args .block .now)) (at-start .pre .0 .0)
+          (at-loop-test .loop-test .taken) (at-start .pre .1),
+      small (at-start .pre .0 .0),
+    )
 
 add-scaled-requires : tie.Need-add-scaled-requires Inv-loop μ-loop
 add-scaled-requires c κs = search needs
@@ -113,7 +138,8 @@ same-length c = search needs
 
 returns : tie.Need-returns Inv-loop μ-loop
 returns c =
-    let all : c .before .loop .j ≡ length (c .before .before .before .before .before .before .before .before .before .before .args .before .now) = omega arith in
+    let all : c .before .loop .j ≡ length
+    (c .before .before .before .before .before .before .before .before .before .before .args .before .now) = omega arith in
     rw (← all, ← c .before .before .before .before .clear .kept .0) (c .before .loop .inv .2)
 
 pub changes-into-spec : {M : Type 1} → statement M

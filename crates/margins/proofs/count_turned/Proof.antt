@@ -1,9 +1,9 @@
 -- `margins::count_turned` meets its contract: after i turns k is the count of the first i rows.
-use mathlib.Core.Bool.{Bool}
-use Rattle.margins.proofs.Stretches.{counts, skips}
 use Rattle.seq.specs.Sums.{at}
 use Rattle.seq.specs.Keep.{count}
 use Rattle.margins.specs.Margins.{turns}
+use Rattle.margins.proofs.Stretches.{counts, skips, differ}
+use mathlib.Core.Bool.{Bool}
 use borrow.Author.Needs.{needs}
 use Prim.Native.Nat.{ℕ, _+_, _-_, _≤_}
 use mathlib.Core.Path.{_≡_, refl, ap, _∙_}
@@ -14,26 +14,39 @@ use Rattle.margins.proofs.count_turned.Statement.{statement}
 use Rattle.margins.proofs.count_turned.Tie as tie
 
 abbrev Inv-loop : tie.InvT-loop
-Inv-loop before after k₀ i₀ k i = (i ≤ length before) × (k ≤ i) × (k ≡ count (λ q. turns (at before q) (at after q)) i)
+Inv-loop before after thresholds k₀ i₀ k i =
+    (i ≤ length before) × (k ≤ i) × (k ≡ count (λ q. turns (at thresholds q) (at before q) (at after q)) i)
 
 abbrev μ-loop : tie.MeasureT-loop
-μ-loop before after k₀ i₀ k i = length before - i
+μ-loop before after thresholds k₀ i₀ k i = length before - i
 
 loop-holds : tie.Need-loop-holds Inv-loop μ-loop
 unfolding count
 loop-holds c = (omega arith, omega arith, refl)
 
-mul-if1 : tie.Need-mul-if1 Inv-loop μ-loop
-mul-if1 c = search needs
+mul-was : tie.Need-mul-was Inv-loop μ-loop
+mul-was c = search needs
 
-shared-slice-read-if1 : tie.Need-shared-slice-read-if1 Inv-loop μ-loop
-shared-slice-read-if1 c = search needs
+shared-slice-read-was : tie.Need-shared-slice-read-was Inv-loop μ-loop
+shared-slice-read-was c = search needs
 
-mul-if2 : tie.Need-mul-if2 Inv-loop μ-loop
-mul-if2 c = search needs
+mul-was-2 : tie.Need-mul-was-2 Inv-loop μ-loop
+mul-was-2 c = search needs
 
-shared-slice-read-if2 : tie.Need-shared-slice-read-if2 Inv-loop μ-loop
-shared-slice-read-if2 c = search needs
+shared-slice-read-was-2 : tie.Need-shared-slice-read-was-2 Inv-loop μ-loop
+shared-slice-read-was-2 c = search needs
+
+mul-is : tie.Need-mul-is Inv-loop μ-loop
+mul-is c = search needs
+
+shared-slice-read-is : tie.Need-shared-slice-read-is Inv-loop μ-loop
+shared-slice-read-is c = search needs
+
+mul-is-2 : tie.Need-mul-is-2 Inv-loop μ-loop
+mul-is-2 c = search needs
+
+shared-slice-read-is-2 : tie.Need-shared-slice-read-is-2 Inv-loop μ-loop
+shared-slice-read-is-2 c = search needs
 
 add-k : tie.Need-add-k Inv-loop μ-loop
 add-k c = search needs
@@ -46,12 +59,17 @@ loop-less c = search needs
 
 loop-again : tie.Need-loop-again Inv-loop μ-loop
 loop-again c =
-    let a = c .before .before .before .before .args in
-    let l = c .before .before .before .loop in
-    let f : ℕ → Bool = λ q. turns (at (a .before .now) q) (at (a .after .now) q) in
+    let at-loop = c .before .before .before .before .before .before in
+    let a = at-loop .before .args in
+    let l = at-loop .loop in
+    let f : ℕ → Bool = λ q. turns (at (a .thresholds .now) q) (at (a .before .now) q) (at (a .after .now) q) in
     ⊎-elim
-    (λ w. rw (w .3) (omega arith, omega arith, ap (λ (x : ℕ). x + 1) (l .inv .2) ∙ counts f (l .i) (rw (w .0 .taken, w .2 .taken))))
-    (λ w. rw (w .1) (omega arith, omega arith, l .inv .2 ∙ skips f (l .i) (⊎-elim (λ s. rw (s .0 .taken, s .2 .left)) (λ s. rw (s .left)) (w .0 .came))))
+    (λ w. rw (w .1) (
+      omega arith,
+      omega arith,
+      ap (λ (x : ℕ). x + 1) (l .inv .2) ∙ counts f (l .i) (differ _ _ _ ∙ w .0 .taken),
+    ))
+    (λ w. rw (w .1) (omega arith, omega arith, l .inv .2 ∙ skips f (l .i) (differ _ _ _ ∙ w .0 .left)))
     (c .if1 .came)
 
 returns : tie.Need-returns Inv-loop μ-loop
@@ -66,10 +84,14 @@ count-turned-spec =
     Inv-loop
     μ-loop
     loop-holds
-    mul-if1
-    shared-slice-read-if1
-    mul-if2
-    shared-slice-read-if2
+    mul-was
+    shared-slice-read-was
+    mul-was-2
+    shared-slice-read-was-2
+    mul-is
+    shared-slice-read-is
+    mul-is-2
+    shared-slice-read-is-2
     add-k
     add-i
     loop-less

@@ -35,28 +35,48 @@ shared-slice-read-w c = search needs
 
 mul-a : tie.Need-mul-a Inv-loop μ-loop
 mul-a c =
-    let c2 = c .before .before in
-    let c10 = c2 .before .before .before .before .before .before .before .before in
-    omega (arith, inside (c2 .loop .j) (c10 .args .from) (length (c10 .args .block .now)) (c10 .pre .0) (c .before .loop-test .taken) (c10 .pre .1), small (c10 .pre .0))
+    let at-loop = c .before .before in
+    let at-start = at-loop .before .before .before .before .before .before .before .before in
+    omega (
+      arith,
+      inside (at-loop .loop .j) (at-start .args .from) (length (at-start .args .block .now)) (at-start .pre .0)
+          (c .before .loop-test .taken) (at-start .pre .1),
+      small (at-start .pre .0),
+    )
 
 add-a : tie.Need-add-a Inv-loop μ-loop
 add-a c =
-    let c2 = c .before .before in
-    let c10 = c2 .before .before .before .before .before .before .before .before in
-    omega (arith, inside (c2 .loop .j) (c10 .args .from) (length (c10 .args .block .now)) (c10 .pre .0) (c .before .loop-test .taken) (c10 .pre .1), small (c10 .pre .0))
+    let at-loop = c .before .before in
+    let at-start = at-loop .before .before .before .before .before .before .before .before in
+    omega (
+      arith,
+      inside (at-loop .loop .j) (at-start .args .from) (length (at-start .args .block .now)) (at-start .pre .0)
+          (c .before .loop-test .taken) (at-start .pre .1),
+      small (at-start .pre .0),
+    )
 
 add-e : tie.Need-add-e Inv-loop μ-loop
 add-e c =
-    let c2 = c .before .before in
-    let c10 = c2 .before .before .before .before .before .before .before .before in
-    omega (arith, inside (c2 .loop .j) (c10 .args .from) (length (c10 .args .block .now)) (c10 .pre .0) (c .before .loop-test .taken) (c10 .pre .1), small (c10 .pre .0))
+    let at-loop = c .before .before in
+    let at-start = at-loop .before .before .before .before .before .before .before .before in
+    omega (
+      arith,
+      inside (at-loop .loop .j) (at-start .args .from) (length (at-start .args .block .now)) (at-start .pre .0)
+          (c .before .loop-test .taken) (at-start .pre .1),
+      small (at-start .pre .0),
+    )
 
 mul-add-scaled : tie.Need-mul-add-scaled Inv-loop μ-loop
 mul-add-scaled c =
-    let c2 = c .before .before in
-    let c3 = c2 .before in
-    let c11 = c3 .before .before .before .before .before .before .before .before in
-    omega (arith, inside (c3 .loop .j) (c11 .args .from) (length (c11 .args .block .now)) (c11 .pre .0) (c2 .loop-test .taken) (c11 .pre .1), small (c11 .pre .0))
+    let at-loop-test = c .before .before in
+    let at-loop = at-loop-test .before in
+    let at-start = at-loop .before .before .before .before .before .before .before .before in
+    omega (
+      arith,
+      inside (at-loop .loop .j) (at-start .args .from) (length (at-start .args .block .now)) (at-start .pre .0)
+          (at-loop-test .loop-test .taken) (at-start .pre .1),
+      small (at-start .pre .0),
+    )
 
 sub-add-scaled : tie.Need-sub-add-scaled Inv-loop μ-loop
 sub-add-scaled c = search needs
@@ -66,10 +86,15 @@ part-add-scaled-start c = search needs
 
 part-add-scaled-end : tie.Need-part-add-scaled-end Inv-loop μ-loop
 part-add-scaled-end c =
-    let c2 = c .before .before in
-    let c3 = c2 .before in
-    let c11 = c3 .before .before .before .before .before .before .before .before in
-    omega (arith, inside (c3 .loop .j) (c11 .args .from) (length (c11 .args .block .now)) (c11 .pre .0) (c2 .loop-test .taken) (c11 .pre .1), small (c11 .pre .0))
+    let at-loop-test = c .before .before in
+    let at-loop = at-loop-test .before in
+    let at-start = at-loop .before .before .before .before .before .before .before .before in
+    omega (
+      arith,
+      inside (at-loop .loop .j) (at-start .args .from) (length (at-start .args .block .now)) (at-start .pre .0)
+          (at-loop-test .loop-test .taken) (at-start .pre .1),
+      small (at-start .pre .0),
+    )
 
 add-scaled-requires : tie.Need-add-scaled-requires Inv-loop μ-loop
 add-scaled-requires c κs = search needs

@@ -13,7 +13,7 @@ returns c = change-refused _ _ _ _ _ (c .before .margin-fault .result) (c .befor
 change-of-requires : tie.Need-change-of-requires
 change-of-requires c κs =
     let s = taken-sizes _ _ _ _ _ (c .before .margin-fault .result) (c .before .margin-fault .ensures) (c .if1 .left) in
-    (s .0, s .2)
+    s .0
 
 returns-2 : tie.Need-returns-2
 returns-2 c =

@@ -1,4 +1,4 @@
--- `faults::all_finite` meets its contract: after j turns it says whether the first j weights are finite.
+-- `limits::all_finite` meets its contract: after i turns it says whether the first i numbers are finite.
 use lib.Ieee.Scale.{finite}
 use Rattle.seq.specs.Sums.{at}
 use Rattle.seq.specs.Keep.{allTo}
@@ -8,14 +8,14 @@ use mathlib.Core.Path.{_≡_, refl}
 use native.Mathlib.Omega.{arith}
 use native.Mathlib.Numerals.{add-one}
 use lib.ListN.{length}
-use Rattle.faults.proofs.all_finite.Statement.{statement}
-use Rattle.faults.proofs.all_finite.Tie as tie
+use Rattle.limits.proofs.all_finite.Statement.{statement}
+use Rattle.limits.proofs.all_finite.Tie as tie
 
 abbrev Inv-loop : tie.InvT-loop
-Inv-loop w ok₀ j₀ ok j = (j ≤ length w) × (ok ≡ allTo (λ k. finite (at w k)) j)
+Inv-loop v ok₀ i₀ ok i = (i ≤ length v) × (ok ≡ allTo (λ k. finite (at v k)) i)
 
 abbrev μ-loop : tie.MeasureT-loop
-μ-loop w ok₀ j₀ ok j = length w - j
+μ-loop v ok₀ i₀ ok i = length v - i
 
 loop-holds : tie.Need-loop-holds Inv-loop μ-loop
 unfolding allTo
@@ -30,8 +30,8 @@ shared-slice-read-is-finite c = search needs
 is-finite-requires : tie.Need-is-finite-requires Inv-loop μ-loop
 is-finite-requires c κs = search needs
 
-add-j : tie.Need-add-j Inv-loop μ-loop
-add-j c = search needs
+add-i : tie.Need-add-i Inv-loop μ-loop
+add-i c = search needs
 
 loop-less : tie.Need-loop-less Inv-loop μ-loop
 loop-less c = search needs
@@ -42,7 +42,7 @@ loop-again c = (omega arith, rw (add-one, c .before .before .before .loop .inv .
 
 returns : tie.Need-returns Inv-loop μ-loop
 returns c =
-    let done : c .before .loop .j ≡ length (c .before .before .before .args .w .now) = omega arith in
+    let done : c .before .loop .i ≡ length (c .before .before .before .args .v .now) = omega arith in
     rw (← done) (c .before .loop .inv .1)
 
 pub all-finite-spec : {M : Type 1} → statement M
@@ -55,7 +55,7 @@ all-finite-spec =
     mul-is-finite
     shared-slice-read-is-finite
     is-finite-requires
-    add-j
+    add-i
     loop-less
     loop-again
     returns)
