@@ -224,16 +224,25 @@ static void margins(void) {
     }
     {
         const size_t m = 3, n = 4, matrix_length = 12, before_length = 3, after_length = 3;
+        const double thresholds[] = {-0.5, 3.0, -0.25, 4.0};
+        const size_t thresholds_length = 4;
         uint64_t ours = 77, *count = &ours;
         hold("knob_turned_words, its number", CALL_knob_turned_words == KNOB_ACCEPTED);
-        hold("knob_turned_words", ours == 1);
+        hold("knob_turned_words", ours == 2);
     }
     { /* No two of these are equal. */
-        const size_t m = 257, n = 5, matrix_length = 6, before_length = 7, after_length = 8;
+        const double thresholds[] = {0.0};
+        const size_t m = 257, n = 5, matrix_length = 6, before_length = 7, after_length = 8, thresholds_length = 9;
         double moved = -7.0, *change = &moved;
         uint64_t turned = 77, *count = &turned;
         hold("knob_max_margin_change, refused", CALL_knob_max_margin_change == KNOB_REFUSED_SIZE && bits(moved) == 0);
         hold("knob_turned_words, refused", CALL_knob_turned_words == KNOB_REFUSED_SIZE && turned == 0);
+    }
+    { /* Nor of these: the number of thresholds is not the number of rows. */
+        const double thresholds[] = {0.0};
+        const size_t m = 3, n = 4097, matrix_length = 6, before_length = 7, after_length = 8, thresholds_length = 9;
+        uint64_t turned = 77, *count = &turned;
+        hold("knob_turned_words, too many rows", CALL_knob_turned_words == KNOB_REFUSED_SIZE && turned == 0);
     }
 }
 

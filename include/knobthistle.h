@@ -141,11 +141,13 @@ uint64_t knob_max_margin_change(const double *matrix, size_t matrix_length, size
                                 const double *before, size_t before_length, const double *after, size_t after_length,
                                 double *change);
 
-/* The number of rows whose margin by `before` is above 0 and by `after` below 0, a margin being the running sum of entry * weight over
-   the columns in order, from 0.0. Answers 0, 3 or 4; *count is 0 on a refusal. */
+/* The number of words that turn. Each row has its own threshold, n of them; a row counts where its margin is above its threshold by
+   `before` and not by `after`, or by `after` and not by `before`. A margin is the running sum of entry * weight over the columns in
+   order, from 0.0; one that equals its threshold is not above it, nor is a NaN. Entries and weights may be any doubles. Answers 0, 3, 4
+   or, where a threshold is not finite, 8; *count is 0 on a refusal. */
 uint64_t knob_turned_words(const double *matrix, size_t matrix_length, size_t m, size_t n,
                            const double *before, size_t before_length, const double *after, size_t after_length,
-                           uint64_t *count);
+                           const double *thresholds, size_t thresholds_length, uint64_t *count);
 
 /* The answer of a sheet: text bytes in, answer bytes out. The first line of a sheet is `thin`, m (at most 32), n (at most 64), the seed,
    and then `target` and a count, or `within`, an allowance, and a cap or `-`; then there is a line for each column: `col`, its weight

@@ -1,5 +1,5 @@
 // needs: knob_gaussian knob_max_margin_change knob_turned_words
-//! The change of margins against the original's, turned words against a second writing of document 01's count, refusals of both
+//! The change of margins against the original's, turned words against a second writing of document 02's count, refusals of both
 //! against a table written here. Both calls take any doubles, so infinities and NaNs are among them.
 
 #[path = "shared/chance.rs"]
@@ -27,6 +27,7 @@ struct Call {
     n: usize,
     before: Vec<f64>,
     after: Vec<f64>,
+    thresholds: Vec<f64>,
 }
 
 impl Call {
@@ -62,6 +63,8 @@ impl Call {
                 c.before.len(),
                 c.after.as_ptr(),
                 c.after.len(),
+                c.thresholds.as_ptr(),
+                c.thresholds.len(),
                 &mut count,
             )
         };
@@ -78,14 +81,27 @@ impl Call {
         }
     }
 
-    /// The rows whose margin was above 0 and is below 0.
+    /// Turned words also want a threshold for each row, and each finite.
+    fn turned_refusal(&self) -> u64 {
+        match self.refusal() {
+            0 if self.thresholds.len() != self.n => 4,
+            0 if self.thresholds.iter().any(|t| !t.is_finite()) => 8,
+            number => number,
+        }
+    }
+
+    fn margin(&self, i: usize, weights: &[f64]) -> f64 {
+        (0..self.m).fold(0.0, |sum, j| sum + self.matrix[j * self.n + i] * weights[j])
+    }
+
+    /// The rows whose margin was above the threshold and is not, or is and was not.
     fn turned_rows(&self) -> u64 {
-        let margin = |i: usize, weights: &[f64]| (0..self.m).fold(0.0, |sum, j| sum + self.matrix[j * self.n + i] * weights[j]);
-        (0..self.n).filter(|i| margin(*i, &self.before) > 0.0 && margin(*i, &self.after) < 0.0).count() as u64
+        let above = |i: usize, weights: &[f64]| self.margin(i, weights) > self.thresholds[i];
+        (0..self.n).filter(|i| above(*i, &self.before) != above(*i, &self.after)).count() as u64
     }
 
     fn bits(&self) -> Vec<u64> {
-        self.matrix.iter().chain(&self.before).chain(&self.after).map(|x| x.to_bits()).collect()
+        self.matrix.iter().chain(&self.before).chain(&self.after).chain(&self.thresholds).map(|x| x.to_bits()).collect()
     }
 
     fn name(&self) -> String {
@@ -107,6 +123,22 @@ fn any(wild: bool, chance: &mut Chance) -> f64 {
     }
 }
 
+/// A finite threshold for a row.
+fn threshold(c: &Call, i: usize, chance: &mut Chance) -> f64 {
+    let met = match chance.below(6) {
+        0 => c.margin(i, &c.before),
+        1 => c.margin(i, &c.after),
+        2 => 0.0,
+        3 => -0.0,
+        _ => any(false, chance),
+    };
+    if met.is_finite() {
+        met
+    } else {
+        0.5
+    }
+}
+
 fn call(m: usize, n: usize, chance: &mut Chance) -> Call {
     let wild = chance.once_in(5);
     let matrix =
@@ -114,19 +146,29 @@ fn call(m: usize, n: usize, chance: &mut Chance) -> Call {
     let before: Vec<f64> = (0..m).map(|_| any(wild, chance)).collect();
     // Some weights stay, so that some differences are 0.
     let after = before.iter().map(|w| if chance.once_in(3) { *w } else { any(wild, chance) }).collect();
-    Call { matrix, m, n, before, after }
+    let mut c = Call { matrix, m, n, before, after, thresholds: Vec::new() };
+    // Thresholds that a margin meets exactly, zeros of both signs, and others.
+    c.thresholds = (0..n).map(|i| threshold(&c, i, chance)).collect();
+    c
 }
 
 fn spoiled(chance: &mut Chance) -> Call {
     let mut c = call(chance.below(8), chance.below(8), chance);
     for _ in 0..chance.between(1, 2) {
         let near = |len: usize, chance: &mut Chance| chance.pick(&[len + 1, len.saturating_sub(1), 0, 2 * len + 3]);
-        match chance.below(5) {
+        match chance.below(7) {
             0 => c.m = chance.pick(&[257, usize::MAX, 1 << 63]),
             1 => c.n = chance.pick(&[4097, usize::MAX, 1 << 61]),
             2 => c.matrix.resize(near(c.matrix.len(), chance), 0.5),
             3 => c.before.resize(near(c.before.len(), chance), 0.5),
-            _ => c.after.resize(near(c.after.len(), chance), 0.5),
+            4 => c.after.resize(near(c.after.len(), chance), 0.5),
+            5 => c.thresholds.resize(near(c.thresholds.len(), chance), 0.5),
+            _ => {
+                let at = chance.below(c.thresholds.len().max(1));
+                if let Some(t) = c.thresholds.get_mut(at) {
+                    *t = chance.pick(&[f64::NAN, f64::INFINITY, f64::NEG_INFINITY]);
+                }
+            }
         }
     }
     c
@@ -153,10 +195,10 @@ fn main() {
     }
     for _ in 0..count(4_000) {
         let c = spoiled(&mut chance);
-        let expected = c.refusal();
+        let expected = (c.refusal(), c.turned_refusal());
         let ((first, change), (second, turned)) = (c.change(), c.turned());
-        let right = first == expected && second == expected && (expected == 0 || change.to_bits() == 0 && turned == 0);
-        refusals.note(right, || format!("{}: {first} and {second}, expected {expected}; {change} and {turned}", c.name()));
+        let right = (first, second) == expected && (first == 0 || change.to_bits() == 0) && (second == 0 || turned == 0);
+        refusals.note(right, || format!("{}: {first} and {second}, expected {expected:?}; {change} and {turned}", c.name()));
     }
     end(&[&changes, &words, &inputs, &refusals])
 }

@@ -112,8 +112,9 @@ fn all() -> Tally {
     measure("max_margin_change", ALLOWED, &mut tally, || unsafe {
         margin_calls::knob_max_margin_change(lent, length, m, n, before, m, after, m, &mut 0.0)
     });
+    let thresholds = vec![0.0; n];
     measure("turned_words", ALLOWED, &mut tally, || unsafe {
-        margin_calls::knob_turned_words(lent, length, m, n, before, m, after, m, &mut 0)
+        margin_calls::knob_turned_words(lent, length, m, n, before, m, after, m, thresholds.as_ptr(), n, &mut 0)
     });
     let mut text = format!("thin\t32\t64\t{:016X}\ttarget\t1\n", 1);
     for _ in 0..32 {

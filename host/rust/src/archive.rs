@@ -87,6 +87,8 @@ extern "C" {
         before_length: usize,
         after: *const f64,
         after_length: usize,
+        thresholds: *const f64,
+        thresholds_length: usize,
         count: *mut u64,
     ) -> u64;
 }

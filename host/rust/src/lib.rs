@@ -22,7 +22,8 @@
 //!
 //! // The change is measured from the weights divided by the sum of their magnitudes.
 //! assert_eq!(max_margin_change(&columns, &[0.25, 0.75], &thinned.weights)?, 0.5);
-//! assert_eq!(turned_words(&columns, &weights, &thinned.weights)?, 0);
+//! // No word's margin comes from above its threshold to not above it, or goes the other way.
+//! assert_eq!(turned_words(&columns, &weights, &thinned.weights, &[0.0, 0.0])?, 0);
 //!
 //! // To at most one hypothesis; and a job that no one can do.
 //! assert_eq!(sparsify(&columns, &weights, 1, 0)?, [0.0, 1.0]);

@@ -31,14 +31,17 @@ pub fn max_margin_change(columns: &[Vec<f64>], before: &[f64], after: &[f64]) ->
     Refusal::check(number).map(|()| change)
 }
 
-/// The number of rows whose margin by `before` is above 0 and by `after` below 0: the words that turn. Refusals 3 and 4. It is no
-/// function of the module that this library was made from.
+/// The number of words that turn: the rows whose margin is above the row's threshold by `before` and not by `after`, or by `after` and
+/// not by `before`. There is one threshold for each row. Entries and weights may be any doubles; a margin that is a NaN is above nothing.
+/// Refusals 3, 4 and, for a threshold that is not finite, 8. It is no function of the module that this library was made from.
 ///
 /// ```
 /// let columns = vec![vec![1.0, 1.0], vec![1.0, -1.0]];
-/// assert_eq!(knobthistle::turned_words(&columns, &[1.0, 0.0], &[0.0, 1.0]), Ok(1));
+/// assert_eq!(knobthistle::turned_words(&columns, &[1.0, 0.0], &[0.0, 1.0], &[0.0, 0.0]), Ok(1));
+/// // At exactly its threshold a word is not above it.
+/// assert_eq!(knobthistle::turned_words(&columns, &[1.0, 0.0], &[0.5, 0.5], &[0.0, 0.0]), Ok(1));
 /// ```
-pub fn turned_words(columns: &[Vec<f64>], before: &[f64], after: &[f64]) -> Result<usize, Refusal> {
+pub fn turned_words(columns: &[Vec<f64>], before: &[f64], after: &[f64], thresholds: &[f64]) -> Result<usize, Refusal> {
     let matrix = Matrix::new(columns);
     let mut count = 0;
     // Sound for the reasons that `thin` gives.
@@ -52,6 +55,8 @@ pub fn turned_words(columns: &[Vec<f64>], before: &[f64], after: &[f64]) -> Resu
             before.len(),
             after.as_ptr(),
             after.len(),
+            thresholds.as_ptr(),
+            thresholds.len(),
             &mut count,
         )
     };

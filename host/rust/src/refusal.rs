@@ -20,7 +20,7 @@ pub enum Refusal {
     Scratch = 6,
     /// 7: an entry is not in [-1, 1]; a NaN is not.
     Entry = 7,
-    /// 8: a weight is not finite.
+    /// 8: a weight, or a threshold of [`crate::turned_words`], is not finite.
     Weight = 8,
     /// 9: the sum of the weights' magnitudes is 0 or infinite.
     Sum = 9,
@@ -71,7 +71,7 @@ impl fmt::Display for Refusal {
             Refusal::Empty => "there is no column or no row",
             Refusal::Scratch => "a scratch is too short",
             Refusal::Entry => "an entry is not in [-1, 1]",
-            Refusal::Weight => "a weight is not finite",
+            Refusal::Weight => "a weight or a threshold is not finite",
             Refusal::Sum => "the sum of the weights' magnitudes is 0 or infinite",
             Refusal::LaterSum => "after a pass the sum of the weights' magnitudes is 0 or not finite",
             Refusal::ColoringEntry => "an entry is not finite or exceeds 2^32 in magnitude",

@@ -179,8 +179,18 @@ fn turned_words_by_hand() {
         let (columns, before) = chance.ensemble();
         let after: Vec<f64> = before.iter().map(|_| chance.signed()).collect();
         let margin = |w: &[f64], i: usize| columns.iter().zip(w).fold(0.0, |sum, (column, w)| sum + column[i] * w);
-        let turned = (0..columns[0].len()).filter(|i| margin(&before, *i) > 0.0 && margin(&after, *i) < 0.0).count();
-        assert_eq!(turned_words(&columns, &before, &after), Ok(turned));
+        // Some thresholds are margins, so that they are met exactly.
+        let thresholds: Vec<f64> = (0..columns[0].len())
+            .map(|i| match chance.word() % 4 {
+                0 => margin(&before, i),
+                1 => margin(&after, i),
+                2 => 0.0,
+                _ => chance.signed(),
+            })
+            .collect();
+        let above = |w: &[f64], i: usize| margin(w, i) > thresholds[i];
+        let turned = (0..columns[0].len()).filter(|i| above(&before, *i) != above(&after, *i)).count();
+        assert_eq!(turned_words(&columns, &before, &after, &thresholds), Ok(turned));
     }
 }
 

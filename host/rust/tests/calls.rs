@@ -59,6 +59,8 @@ fn margins() {
     let columns = vec![vec![0.5, -1.0, 0.25, 1.0], vec![1.0, 0.5, -0.5, -0.25], vec![-1.0, 0.75, 1.0, -0.5]];
     let (before, after) = ([1.0, 2.0, 3.0], [4.0, -2.0, -0.5]);
     assert_eq!(max_margin_change(&columns, &before, &after), Ok(7.625));
-    assert_eq!(turned_words(&columns, &before, &after), Ok(1));
-    assert_eq!(turned_words(&columns, &after, &before), Ok(2));
+    // The margins are -0.5, 2.25, 2.25, -1 before, and 0.5, -5.375, 1.5, 4.75 after.
+    assert_eq!(turned_words(&columns, &before, &after, &[-0.5, 3.0, -0.25, 4.0]), Ok(2));
+    assert_eq!(turned_words(&columns, &before, &after, &[0.0; 4]), Ok(3));
+    assert_eq!(turned_words(&columns, &before, &after, &[0.5, 2.25, 1.5, 5.0]), Ok(1));
 }

@@ -58,7 +58,7 @@ fn size() {
         assert_eq!(both(&columns, &[]), Err(Refusal::Size));
         assert_eq!(discrepancy_coloring(&columns, 0), Err(Refusal::Size));
         assert_eq!(max_margin_change(&columns, &weights, &weights), Err(Refusal::Size));
-        assert_eq!(turned_words(&columns, &weights, &weights), Err(Refusal::Size));
+        assert_eq!(turned_words(&columns, &weights, &weights, &[f64::NAN]), Err(Refusal::Size));
     }
     // Too many rows and columns that differ: the lower number.
     assert_eq!(both(&[vec![0.5; MAX_ROWS + 1], vec![0.5]], &[1.0, 1.0]), Err(Refusal::Size));
@@ -75,7 +75,7 @@ fn the_largest_is_accepted() {
     assert!(thinned.nonzeros <= 4 && thinned.weights.len() == MAX_COLUMNS);
     let normalised = vec![1.0 / MAX_COLUMNS as f64; MAX_COLUMNS];
     assert_eq!(max_margin_change(&columns, &normalised, &thinned.weights), Ok(thinned.change));
-    assert!(turned_words(&columns, &weights, &thinned.weights).unwrap() <= MAX_ROWS);
+    assert!(turned_words(&columns, &weights, &thinned.weights, &[0.0; MAX_ROWS]).unwrap() <= MAX_ROWS);
     assert!(discrepancy_coloring(&columns, 1).unwrap().iter().all(|sign| sign.abs() == 1));
 }
 
@@ -86,8 +86,15 @@ fn lengths() {
         assert_eq!(both(&two, weights), Err(Refusal::Length));
         for (before, after) in [(weights, &[1.0, 1.0][..]), (&[1.0, 1.0], weights), (weights, weights)] {
             assert_eq!(max_margin_change(&two, before, after), Err(Refusal::Length));
-            assert_eq!(turned_words(&two, before, after), Err(Refusal::Length));
+            assert_eq!(turned_words(&two, before, after, &[0.0, 0.0]), Err(Refusal::Length));
         }
+    }
+    // One threshold for each row, and each finite; a length comes first.
+    for thresholds in [&[][..], &[0.0], &[0.0, 0.0, 0.0], &[f64::NAN]] {
+        assert_eq!(turned_words(&two, &[1.0, 1.0], &[1.0, 1.0], thresholds), Err(Refusal::Length));
+    }
+    for wrong in [f64::NAN, f64::INFINITY, f64::NEG_INFINITY] {
+        assert_eq!(turned_words(&two, &[1.0, 1.0], &[1.0, 1.0], &[0.0, wrong]), Err(Refusal::Weight));
     }
     assert_eq!(both(&[], &[1.0]), Err(Refusal::Length));
 }
@@ -101,7 +108,7 @@ fn ragged_columns() {
         let weights = vec![1.0; columns.len()];
         assert_eq!(both(&columns, &weights), Err(Refusal::Length), "{lengths:?}");
         assert_eq!(max_margin_change(&columns, &weights, &weights), Err(Refusal::Length), "{lengths:?}");
-        assert_eq!(turned_words(&columns, &weights, &weights), Err(Refusal::Length), "{lengths:?}");
+        assert_eq!(turned_words(&columns, &weights, &weights, &vec![0.0; lengths[0]]), Err(Refusal::Length), "{lengths:?}");
         assert_eq!(discrepancy_coloring(&columns, 0), Err(Refusal::Length), "{lengths:?}");
         // A lower number comes first, a higher one after.
         assert_eq!(sparsify(&columns, &weights, 0, 0), Err(Refusal::Zero));
@@ -120,7 +127,7 @@ fn nothing_given() {
     for m in [0, 1, 3] {
         let weights = vec![f64::NAN; m];
         assert_eq!(max_margin_change(&columns(m, 0), &weights, &weights), Ok(0.0));
-        assert_eq!(turned_words(&columns(m, 0), &weights, &weights), Ok(0));
+        assert_eq!(turned_words(&columns(m, 0), &weights, &weights, &[]), Ok(0));
         assert_eq!(discrepancy_coloring(&columns(m, 0), 0).map(|signs| signs.len()), Ok(m));
     }
 }
@@ -165,5 +172,7 @@ fn margins_of_any_doubles() {
     let columns = vec![odd.to_vec(), odd.to_vec()];
     assert_eq!(max_margin_change(&columns, &[1.0, 2.0], &[1.0, 1.0]), Ok(f64::INFINITY));
     assert_eq!(max_margin_change(&columns, &[f64::NAN, 2.0], &[1.0, 1.0]), Ok(0.0));
-    assert_eq!(turned_words(&columns, &[1.0, 0.0], &[-1.0, 0.0]), Ok(1));
+    // Rows 0 to 3: never above; above before alone; the same; never above.
+    assert_eq!(turned_words(&columns, &[1.0, 0.0], &[-1.0, 0.0], &[0.0; 4]), Ok(1));
+    assert_eq!(turned_words(&columns, &[1.0, 0.0], &[-1.0, 0.0], &[0.0, 0.0, 0.0, -1.0]), Ok(1));
 }

@@ -22,6 +22,8 @@ extern "C" {
         before_len: usize,
         after: *const f64,
         after_len: usize,
+        thresholds: *const f64,
+        thresholds_len: usize,
         count: *mut u64,
     ) -> u64;
 }
