@@ -65,12 +65,11 @@ double knob_cos_draw(uint64_t word);
       7   a matrix entry is not in [-1, 1]; a NaN is not                             x         x
       8   a weight is not finite                                                     x         x
       9   the sum of the weights' magnitudes, in doubles, is 0 or infinite           x         x
-     10   after a pass that sum is 0 or not finite                                   x         x
+     10   used for nothing
      11   an entry is not finite or above 2^32 in magnitude                                             x
 
    A refusal answers its number with 0 in every other field, and changes neither output nor scratch: every double is the one that it was.
-   (That a NaN among them keeps its pattern is tested and not proved: a proof here knows one NaN.) Number 10 alone is found after work has
-   begun: it changes no output and leaves all scratch zero.
+   (That a NaN among them keeps its pattern is tested and not proved: a proof here knows one NaN.)
 
    Equal arguments give equal bits, on every machine. */
 
@@ -88,7 +87,6 @@ enum knob_number {
     KNOB_REFUSED_ENTRY = 7,
     KNOB_REFUSED_WEIGHT = 8,
     KNOB_REFUSED_SUM = 9,
-    KNOB_REFUSED_LATER_SUM = 10,
     KNOB_REFUSED_COLORING_ENTRY = 11
 };
 

@@ -24,15 +24,13 @@ pub enum Refusal {
     Weight = 8,
     /// 9: the sum of the weights' magnitudes is 0 or infinite.
     Sum = 9,
-    /// 10: after a pass that sum is 0 or not finite. It is proved that no job meets this.
-    LaterSum = 10,
     /// 11: an entry of a colouring is not finite or exceeds 2^32 in magnitude.
     ColoringEntry = 11,
 }
 
 impl Refusal {
     /// Every refusal, in the order of the numbers.
-    pub const ALL: [Refusal; 11] = [
+    pub const ALL: [Refusal; 10] = [
         Refusal::Allowance,
         Refusal::Zero,
         Refusal::Size,
@@ -42,11 +40,10 @@ impl Refusal {
         Refusal::Entry,
         Refusal::Weight,
         Refusal::Sum,
-        Refusal::LaterSum,
         Refusal::ColoringEntry,
     ];
 
-    /// The number, 1 to 11.
+    /// The number, 1 to 11 but 10, which is used for nothing.
     pub fn number(self) -> u64 {
         self as u64
     }
@@ -56,7 +53,7 @@ impl Refusal {
         match Refusal::ALL.into_iter().find(|refusal| refusal.number() == number) {
             Some(refusal) => Err(refusal),
             None if number == 0 => Ok(()),
-            None => unreachable!("the archive's calls answer 0 to 11, not {number}"),
+            None => unreachable!("the archive's calls answer 0 or a refusal's number, not {number}"),
         }
     }
 }
@@ -73,7 +70,6 @@ impl fmt::Display for Refusal {
             Refusal::Entry => "an entry is not in [-1, 1]",
             Refusal::Weight => "a weight or a threshold is not finite",
             Refusal::Sum => "the sum of the weights' magnitudes is 0 or infinite",
-            Refusal::LaterSum => "after a pass the sum of the weights' magnitudes is 0 or not finite",
             Refusal::ColoringEntry => "an entry is not finite or exceeds 2^32 in magnitude",
         })
     }
