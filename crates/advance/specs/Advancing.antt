@@ -1,4 +1,4 @@
--- What the move along a direction leaves in the scratch: A g beside A x, both turned downhill, and the move itself.
+-- Told between functions: what the move along a direction leaves in the scratch, A g beside A x, both turned downhill, and the move itself.
 use Prim.Native.Nat.{ℕ, _+_}
 use mathlib.Core.Path.{_≡_}
 use mathlib.Core.Bool.{Bool}
@@ -29,9 +29,11 @@ abbrev pub reachIn : (ℕ → ℕ → Float) → ℕ → List Float → List Flo
 reachIn a rows num x free g = reachTo x (turned (uphillIn a rows num g) g) free (length g)
 
 -- where that is finite, x and A x were moved so far; the rest is as it was
-pub record Advanced (a : ℕ → ℕ → Float) (rows : ℕ) (num x : List Float) (free : List ℕ) (g : List Float) (r : Bool) (num' x' : List Float) : Type 0 where
+pub record Advanced (a : ℕ → ℕ → Float) (rows : ℕ) (num x : List Float) (free : List ℕ) (g : List Float)
+    (r : Bool) (num' x' : List Float) : Type 0 where
   pub goes : r ≡ finite (reachIn a rows num x free g)
   pub moves : x' ≡ pick r (moved (reachIn a rows num x free g) x (turned (uphillIn a rows num g) g) free) x
   pub ax : axIn rows num'
-      ≡ pick r (along (reachIn a rows num x free g) (axIn rows num) (turned (uphillIn a rows num g) (times plusZero a (length g) rows g))) (axIn rows num)
+      ≡ pick r (along (reachIn a rows num x free g) (axIn rows num)
+      (turned (uphillIn a rows num g) (times plusZero a (length g) rows g))) (axIn rows num)
   pub rest : drop (rows + rows) num' ≡ drop (rows + rows) num

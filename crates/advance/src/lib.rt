@@ -9,7 +9,8 @@ use linear::dot;
 ghost use mathlib.Core.Path.{_≡_};
 ghost use Prim.Native.Nat.{_≤_, _+_};
 ghost use lib.ListN.{length};
-ghost use Rattle.entries.specs.Entries.{entryOf, Chosen};
+ghost use Rattle.entries.specs.Entries.{entryOf};
+ghost use Rattle.entries.specs.ChosenColumns.{Chosen};
 ghost use Rattle.advance.specs.Advancing.{Downhill, Advanced};
 
 // A g beside A x, both turned where the direction leads uphill.
@@ -23,7 +24,8 @@ fn turn_downhill(
     g: &mut [f64],
 )
     requires { ⌜ Chosen (now u) n (now cols) (now scale) rows × (length (now g) ≡ length (now cols)) × (rows + rows ≤ length (now num)) ⌝ }
-    ensures { λ _. ⌜ Downhill (entryOf (now (u .entry)) n (now (cols .entry)) (now (scale .entry))) rows (now (num .entry)) (now (g .entry)) (now (num .exit)) (now (g .exit)) ⌝ }
+    ensures { λ _. ⌜ Downhill (entryOf (now (u .entry)) n (now (cols .entry)) (now (scale .entry))) rows
+        (now (num .entry)) (now (g .entry)) (now (num .exit)) (now (g .exit)) ⌝ }
 {
     let to = rows + rows;
     times_into(&mut num[rows..to], u, n, cols, scale, &g[..]);
@@ -45,8 +47,10 @@ pub fn advance(
     scale: &[f64],
     g: &mut [f64],
 ) -> bool
-    requires { ⌜ Chosen (now u) n (now cols) (now scale) rows × (length (now g) ≡ length (now cols)) × (length (now x) ≡ length (now cols)) × (length (now free) ≡ length (now cols)) × (rows + rows ≤ length (now num)) ⌝ }
-    ensures { λ r. ⌜ Advanced (entryOf (now (u .entry)) n (now (cols .entry)) (now (scale .entry))) rows (now (num .entry)) (now (x .entry)) (now (free .entry)) (now (g .entry)) r (now (num .exit)) (now (x .exit)) ⌝ }
+    requires { ⌜ Chosen (now u) n (now cols) (now scale) rows × (length (now g) ≡ length (now cols)) × (length (now x) ≡ length (now cols))
+        × (length (now free) ≡ length (now cols)) × (rows + rows ≤ length (now num)) ⌝ }
+    ensures { λ r. ⌜ Advanced (entryOf (now (u .entry)) n (now (cols .entry)) (now (scale .entry))) rows
+        (now (num .entry)) (now (x .entry)) (now (free .entry)) (now (g .entry)) r (now (num .exit)) (now (x .exit)) ⌝ }
 {
     turn_downhill(num, rows, u, n, cols, scale, &mut g[..]);
     let t = reach(&x[..], &g[..], free);

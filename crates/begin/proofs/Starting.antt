@@ -11,7 +11,7 @@ use lib.Ieee.{Float}
 use Rattle.seq.specs.Lists.{tabulate, part, placed, repeated}
 use Rattle.seq.specs.Sums.{plusZero}
 use Rattle.seq.specs.Sort.{sorted}
-use Rattle.seq.specs.Keep.{Pushed}
+use Rattle.seq.specs.Indices.{Pushed}
 use Rattle.seq.proofs.Filling.{length-tab}
 use Rattle.seq.proofs.Parts.{length-part, length-placed, part-same, part-below}
 use Rattle.seq.proofs.Sorting.{length-sorted, sorted-all, take-all-of}
@@ -26,7 +26,8 @@ use Rattle.freeze.proofs.Scratch.{back-front}
 use Rattle.freeze.proofs.Freezing.{offered-basis, offered-most}
 
 -- what holds after the first k of the rows were blocked
-pub record Blocking (a : ℕ → ℕ → Float) (l : ℕ) (first : List ℕ) (num₀ : List Float) (rows : ℕ) (v₀ num : List Float) (blocked : List ℕ) (v : List Float) (count k : ℕ) : Type 0 where
+pub record Blocking (a : ℕ → ℕ → Float) (l : ℕ) (first : List ℕ) (num₀ : List Float) (rows : ℕ) (v₀ num : List Float)
+    (blocked : List ℕ) (v : List Float) (count k : ℕ) : Type 0 where
   pub upto : k ≤ length first
   pub nums : length num ≡ length num₀
   pub long : length blocked ≡ rows
@@ -98,7 +99,9 @@ module _ {xs : List ℕ} {n : ℕ} {buf : List ℕ} (p : Pushed xs n buf) (tail 
 -- the start of a phase; k and m are as many as there are rows, and q a quarter of the columns
 module _ (a : ℕ → ℕ → Float) (l rows k m q n : ℕ) (num ns : List Float) (zeros buf tail : List ℕ) (ek : k ≡ rows) (em : m ≡ rows) (eq : q ≡ l / 4)
     (room : rows + rows + rows ≤ length num) (short : q ≤ length zeros) (en : ns ≡ rowNorms plusZero a l (length (part (rows + rows) k num)))
-    (p : Pushed (take (length (take q zeros)) (sorted (comesFirst (part 0 m (placed (rows + rows) k num ns)) (part (rows + rows) k (placed (rows + rows) k num ns))) (λ i. i) (length (part 0 m (placed (rows + rows) k num ns))))) n buf) where
+    (p : Pushed (take (length (take q zeros)) (sorted
+    (comesFirst (part 0 m (placed (rows + rows) k num ns)) (part (rows + rows) k (placed (rows + rows) k num ns)))
+    (λ i. i) (length (part 0 m (placed (rows + rows) k num ns))))) n buf) where
   abbrev normed : List Float
   normed = placed (rows + rows) k num ns
 
@@ -130,7 +133,8 @@ module _ (a : ℕ → ℕ → Float) (l rows k m q n : ℕ) (num ns : List Float
   pub first-rows-below : (j : ℕ) → j < length (take n (buf ++ tail)) → getD (take n (buf ++ tail)) j 0 < rows
   first-rows-below = rw first-is (first-below plusZero a l rows (axIn rows num))
 
-  pub begun-is : (r : ℕ) (num' : List Float) (blocked' : List ℕ) → BlockedFirst a l (take n (buf ++ tail)) normed rows r num' blocked' → Begun a l num rows r num' blocked'
+  pub begun-is : (r : ℕ) (num' : List Float) (blocked' : List ℕ) → BlockedFirst a l (take n (buf ++ tail)) normed rows r num'
+      blocked' → Begun a l num rows r num' blocked'
   begun-is r num' blocked' b =
       record {
         ax = b .ax ∙ normed-ax;

@@ -1,4 +1,4 @@
--- What the start of a phase leaves in the scratch.
+-- Told between functions: what the start of a phase leaves in the scratch.
 use Prim.Native.Nat.{ℕ}
 use mathlib.Core.Path.{_≡_}
 use mathlib.Core.List.{List}
@@ -10,7 +10,8 @@ use Rattle.begin.specs.Begin.{blockTo, marksTo}
 use Rattle.freeze.specs.Held.{axIn, basisIn}
 
 -- some rows were blocked in order
-pub record BlockedFirst (a : ℕ → ℕ → Float) (l : ℕ) (first : List ℕ) (num : List Float) (rows r : ℕ) (num' : List Float) (blocked' : List ℕ) : Type 0 where
+pub record BlockedFirst (a : ℕ → ℕ → Float) (l : ℕ) (first : List ℕ) (num : List Float) (rows r : ℕ)
+    (num' : List Float) (blocked' : List ℕ) : Type 0 where
   pub ax : axIn rows num' ≡ axIn rows num
   pub marks : blocked' ≡ marksTo rows first (length first)
   pub basis : basisIn rows l r num' ≡ blockTo plusZero a l first (length first)
@@ -19,4 +20,5 @@ pub record BlockedFirst (a : ℕ → ℕ → Float) (l : ℕ) (first : List ℕ)
 pub record Begun (a : ℕ → ℕ → Float) (l : ℕ) (num : List Float) (rows r : ℕ) (num' : List Float) (blocked' : List ℕ) : Type 0 where
   pub ax : axIn rows num' ≡ axIn rows num
   pub marks : blocked' ≡ marksTo rows (firstRows plusZero a l rows (axIn rows num)) (length (firstRows plusZero a l rows (axIn rows num)))
-  pub basis : basisIn rows l r num' ≡ blockTo plusZero a l (firstRows plusZero a l rows (axIn rows num)) (length (firstRows plusZero a l rows (axIn rows num)))
+  pub basis : basisIn rows l r num'
+      ≡ blockTo plusZero a l (firstRows plusZero a l rows (axIn rows num)) (length (firstRows plusZero a l rows (axIn rows num)))

@@ -7,7 +7,8 @@ ghost use mathlib.Core.Path.{_≡_};
 ghost use Prim.Native.Nat.{ℕ, _≤_, _<_, _*_, _+_};
 ghost use lib.ListN.{length, getD};
 ghost use Rattle.seq.specs.Lists.{repeated};
-ghost use Rattle.entries.specs.Entries.{entryOf, Chosen};
+ghost use Rattle.entries.specs.Entries.{entryOf};
+ghost use Rattle.entries.specs.ChosenColumns.{Chosen};
 ghost use Rattle.begin.specs.Beginning.{BlockedFirst, Begun};
 
 // Blocks some rows, in order; how many vectors the basis then has. v is room for a row.
@@ -21,9 +22,13 @@ fn block_first(
     scale: &[f64],
     v: &mut [f64],
 ) -> usize
-    requires { ⌜ Chosen (now u) n (now cols) (now scale) (length (now blocked)) × (length (now v) ≡ length (now cols)) × (length (now blocked) + length (now blocked) + length (now blocked) + length (now cols) * length (now cols) ≤ length (now num)) × (now blocked ≡ repeated 0 (length (now blocked))) ⌝ }
+    requires { ⌜ Chosen (now u) n (now cols) (now scale) (length (now blocked)) × (length (now v) ≡ length (now cols)) × (length
+        (now blocked) + length (now blocked) + length (now blocked) + length (now cols) * length (now cols) ≤ length
+        (now num)) × (now blocked ≡ repeated 0 (length (now blocked))) ⌝ }
     requires { ⌜ ((k : ℕ) → k < length (now first) → getD (now first) k 0 < length (now blocked)) ⌝ }
-    ensures { λ r. ⌜ BlockedFirst (entryOf (now (u .entry)) n (now (cols .entry)) (now (scale .entry))) (length (now (cols .entry))) (now (first .entry)) (now (num .entry)) (length (now (blocked .entry))) r (now (num .exit)) (now (blocked .exit)) ⌝ }
+    ensures { λ r. ⌜ BlockedFirst (entryOf (now (u .entry)) n (now (cols .entry)) (now (scale .entry)))
+        (length (now (cols .entry))) (now (first .entry)) (now (num .entry)) (length (now (blocked .entry))) r
+        (now (num .exit)) (now (blocked .exit)) ⌝ }
 {
     let base = blocked.len() + blocked.len() + blocked.len();
     let mut count = 0usize;
@@ -47,8 +52,12 @@ pub fn begin(
     scale: &[f64],
     v: &mut [f64],
 ) -> usize
-    requires { ⌜ Chosen (now u) n (now cols) (now scale) (length (now blocked)) × (length (now v) ≡ length (now cols)) × (length (now blocked) + length (now blocked) + length (now blocked) + length (now cols) * length (now cols) ≤ length (now num)) ⌝ }
-    ensures { λ r. ⌜ Begun (entryOf (now (u .entry)) n (now (cols .entry)) (now (scale .entry))) (length (now (cols .entry))) (now (num .entry)) (length (now (blocked .entry))) r (now (num .exit)) (now (blocked .exit)) ⌝ }
+    requires { ⌜ Chosen (now u) n (now cols) (now scale) (length (now blocked)) × (length (now v) ≡ length (now cols)) × (length
+        (now blocked) + length (now blocked) + length (now blocked) + length (now cols) * length (now cols) ≤ length
+        (now num)) ⌝ }
+    ensures { λ r. ⌜ Begun (entryOf (now (u .entry)) n (now (cols .entry)) (now (scale .entry)))
+        (length (now (cols .entry))) (now (num .entry)) (length (now (blocked .entry))) r (now (num .exit))
+        (now (blocked .exit)) ⌝ }
 {
     let rows = blocked.len();
     let from = rows + rows;

@@ -32,12 +32,16 @@ use Rattle.walk.specs.Walk.{freeOnes}
 -- ---- between two phases
 
 -- the phase's coordinates back at their places
-module _ (k l : ℕ) (x ws : List Float) (free fs : List ℕ) (whole : Sound k x free) (part : Sound l ws fs) (marks : length free ≡ k) (few : length (keep (isSet free) k) ≡ l) where
+module _ (k l : ℕ) (x ws : List Float) (free fs : List ℕ) (whole : Sound k x free) (part : Sound l ws fs)
+    (marks : length free ≡ k) (few : length (keep (isSet free) k) ≡ l) where
   put-at : (j : ℕ) → j < k → (t : Bool) → isSet free j ≡ t → isSet (put free fs k) j ≡ false → Colour (at (back plusZero (isSet free) ws x k) j)
   put-at j h true e f =
       let m : count (isSet free) j < l = omega (arith, count-before (isSet free) k j h e, length-keep (isSet free) k) in
       let g : isSet fs (count (isSet free) j) ≡ false = ap (λ (i : ℕ). eqb i 1) (sym (back-at 0 0 (isSet free) fs free k j h (omega arith) e)) ∙ f in
-      rw (back-at plusZero nan (isSet free) ws x k j h (omega (arith, whole .long)) e, getD-any ws (count (isSet free) j) plusZero nan (omega (arith, part .long)))
+      rw (
+        back-at plusZero nan (isSet free) ws x k j h (omega (arith, whole .long)) e,
+        getD-any ws (count (isSet free) j) plusZero nan (omega (arith, part .long)),
+      )
       (part .coloured (count (isSet free) j) m g)
   put-at j h false e f = rw (back-other plusZero nan (isSet free) ws x k j (λ _. e)) (whole .coloured j h e)
 
@@ -69,7 +73,10 @@ module _ (z : Float) (a : ℕ → ℕ → Float) (k n : ℕ) where
   phased-sound : (b : Between) → Standing k b → Standing k (phased z a k n b)
   unfolding phased
   phased-sound b s = picked (Standing k) (eqb (insidePhase z a k n b .frozen) 0) (roundedOff after) after
-      (record { sound = round-sound k (after .x) (after .free) (repeated 0 (length (after .free))) sound; marks = length-tab {A = ℕ} (λ _. 0) (length (after .free)) ∙ marks })
+      (record {
+        sound = round-sound k (after .x) (after .free) (repeated 0 (length (after .free))) sound;
+        marks = length-tab {A = ℕ} (λ _. 0) (length (after .free)) ∙ marks;
+      })
       (record { sound = sound; marks = marks })
     where
       after : Between
@@ -91,7 +98,8 @@ module _ (z : Float) (a : ℕ → ℕ → Float) (k n : ℕ) where
   pub walked-sound : (rng : ℕ) → Standing k (walked z a k n rng)
   unfolding walked
   walked-sound rng =
-      run-keeps (Standing k) settled (phased z a k n) phased-sound _ (record { x = repeated plusZero k; free = repeated 1 k; ax = repeated plusZero n; rng = rng })
+      run-keeps (Standing k) settled (phased z a k n) phased-sound _
+      (record { x = repeated plusZero k; free = repeated 1 k; ax = repeated plusZero n; rng = rng })
       (record {
         sound = record { long = length-tab (λ _. plusZero) k; coloured = λ j h f. absurd (off (sym (all-free k j h) ∙ f)) };
         marks = length-tab {A = ℕ} (λ _. 1) k;

@@ -1,12 +1,11 @@
 -- What a phase keeps: what froze and what is free are all of its l columns, and each coordinate is marked free or has its colour, 1.0 or -1.0.
 -- One that freezes is snapped to its sign and is no NaN.
-use Prim.Native.Nat.{ℕ, zero, suc, _+_, _≤_, _<_}
+use Prim.Native.Nat.{ℕ, zero, suc, _+_, _<_}
 use mathlib.Core.Path.{_≡_, refl, sym, ap, _∙_}
 use mathlib.Core.Logic.{_≢_, _⊎_, inl, inr}
-use mathlib.Core.Bool.{Bool, true, false, _&&_}
+use mathlib.Core.Bool.{Bool, true, false}
 use mathlib.Core.List.{List}
 use native.Mathlib.Omega.{arith}
-use native.Mathlib.Decide.{decLe}
 use borrow.Author.Tests.{eqb-true, eqb-false}
 use lib.Dec.{eqb, ltb}
 use lib.IntN.{pos}
@@ -22,12 +21,13 @@ use Rattle.ieee.specs.Magnitude.{absOf, signumOf}
 use lib.Ieee.Scale.{finite}
 use Rattle.entries.specs.Rows.{times}
 use Rattle.seq.specs.Marks.{isSet}
+use Rattle.seq.proofs.Choosing.{both}
 use Rattle.direction.specs.Direction.{drawn, directed, tooShort, uphill, turned}
 use Rattle.ieee.specs.Constants.{one, minusOne}
 use Rattle.freeze.specs.Freeze.{freezeLimit, Walk, freezes, frozenAt, freezeTo}
 use Rattle.direction.specs.Step.{reachTo, moved, movedAt}
 use Rattle.walk.proofs.Ending.{step-sound}
-use Rattle.places.proofs.Places.{off, getD-out, count-all}
+use Rattle.places.proofs.Places.{off, count-all}
 use Rattle.begin.specs.Begin.{begun}
 use Rattle.walk.specs.Walk.{Stepped, drew, advanced, freeOnes, stepOf, steppedAlong, phaseOf, ended}
 
@@ -84,7 +84,8 @@ picked P true x y p q = p
 picked P false x y p q = q
 
 -- what each step keeps, a loop keeps
-pub run-keeps : {S : Type 0} (P : S → Type 0) (done : S → Bool) (next : S → S) → ((s : S) → P s → P (next s)) → (fuel : ℕ) (s : S) → P s → P (run done next fuel s)
+pub run-keeps : {S : Type 0} (P : S → Type 0) (done : S → Bool) (next : S → S) → ((s : S) → P s → P (next s)) → (fuel : ℕ) (s : S)
+    → P s → P (run done next fuel s)
 unfolding run
 run-keeps P done next h zero s p = p
 run-keeps P done next h (suc fuel) s p = picked P (done s) s (run done next fuel (next s)) p (run-keeps P done next h fuel (next s) (h s p))
@@ -110,25 +111,9 @@ set-sound l q x free y c s = record { long = length-set x q y ∙ s .long; colou
             let i : p ≢ q = eqb-false p q g in
             rw (getD-set-other x q p y nan i) (s .coloured p h (rw (getD-set-other free q p 0 0 i) at e))
 
-and-right : (s t : Bool) → (s && t) ≡ true → t ≡ true
-and-right true t e = e
-and-right false t e = absurd (off (sym e))
-
 -- every one of l marks is set
 pub all-free : (l p : ℕ) → p < l → isSet (repeated 1 l) p ≡ true
 all-free l p h = ap (λ (m : ℕ). eqb m 1) (getD-tab {A = ℕ} (λ _. 1) l p 0 h)
-
--- marks past the end are not set
-pub unset-out : (free : List ℕ) (j : ℕ) → length free ≤ j → isSet free j ≡ false
-unset-out free j h = rw (getD-out free j 0 h)
-
--- a mark that is set stands in the list
-pub set-inside : (free : List ℕ) (j : ℕ) → isSet free j ≡ true → j < length free
-set-inside free j s = go (decLe (length free) j)
-  where
-    go : Dec (length free ≤ j) → j < length free
-    go (yes h) = absurd (off (sym s ∙ unset-out free j h))
-    go (no h) = omega arith
 
 -- so l are set
 pub ones : (l : ℕ) → freeOnes (repeated 1 l) ≡ l
@@ -144,7 +129,8 @@ module _ (z : Float) (a : ℕ → ℕ → Float) (l n : ℕ) where
   unfolding frozenAt
   frozen-kept w p e s =
       record {
-        sound = set-sound l p (w .x) (w .free) (signumOf (at (w .x) p)) (snapped (at (w .x) p) (and-right (isSet (w .free) p) (le freezeLimit (absOf (at (w .x) p))) e)) (s .sound);
+        sound = set-sound l p (w .x) (w .free) (signumOf (at (w .x) p))
+            (snapped (at (w .x) p) (both (isSet (w .free) p) (le freezeLimit (absOf (at (w .x) p))) e .1)) (s .sound);
         marks = length-set (w .free) p 0 ∙ s .marks;
       }
 

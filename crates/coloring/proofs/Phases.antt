@@ -19,13 +19,14 @@ use Rattle.seq.proofs.Filling.{length-tab, getD-tab}
 use Rattle.seq.proofs.Keeping.{length-keep, keep-short}
 use Rattle.seq.proofs.Loops.{enough}
 use Rattle.seq.specs.Marks.{isSet}
+use Rattle.seq.proofs.Marks.{unset-out, set-inside}
 use Rattle.freeze.specs.Freeze.{Walk}
 use Rattle.begin.specs.Begin.{begun}
 use Rattle.walk.specs.Walk.{phaseOf, freeOnes}
 use Rattle.places.specs.Places.{chosen, putBack}
 use Rattle.phasing.specs.Phase.{Between, roundedOff, phased}
 use Rattle.coloring.specs.Coloring.{settled, walked}
-use Rattle.coloring.proofs.Marked.{unset-out, set-inside, Kept, phase-keeps, phase-total}
+use Rattle.coloring.proofs.Marked.{Kept, phase-keeps, phase-total}
 use Rattle.places.proofs.Places.{back, back-at, back-other, length-putBack, count-none, count-through, count-fewer, count-out}
 
 -- ---- the marks that a phase leaves
@@ -105,7 +106,8 @@ module _ (z : Float) (a : ℕ → ℕ → Float) (k n : ℕ) where
       go true e = omega (arith, cleared (length (after .free)), eqb-false (freeOnes (b .free)) 0 s)
       go false e =
           let f : insidePhase b .frozen ≢ 0 = eqb-false (insidePhase b .frozen) 0 e in
-          marks-fall (b .free) (insidePhase b .free) k (froze-some _ _ (insidePhase b) (length-keep (isSet (b .free)) k) (counts b .marks) (phase-total z _ _ n _ (b .ax) (b .rng)) f)
+          marks-fall (b .free) (insidePhase b .free) k (froze-some _ _ (insidePhase b) (length-keep (isSet (b .free)) k)
+          (counts b .marks) (phase-total z _ _ n _ (b .ax) (b .rng)) f)
 
   -- the walk from b, with fuel that is enough
   pub settles : (fuel : ℕ) (b : Between) → freeOnes (b .free) ≤ fuel → settled (run settled (phased z a k n) fuel b) ≡ true
@@ -127,4 +129,5 @@ module _ (z : Float) (a : ℕ → ℕ → Float) (k n : ℕ) where
   pub walk-enough : (fuel rng : ℕ) → k ≤ fuel
       → run settled (phased z a k n) fuel (record { x = repeated plusZero k; free = repeated 1 k; ax = repeated plusZero n; rng = rng }) ≡ walked z a k n rng
   unfolding walked
-  walk-enough fuel rng h = enough settled (phased z a k n) (λ b. freeOnes (b .free)) falls fuel _ _ (omega (arith, marks-short (repeated 1 k), length-tab {A = ℕ} (λ _. 1) k)) (omega arith)
+  walk-enough fuel rng h = enough settled (phased z a k n) (λ b. freeOnes (b .free)) falls fuel _ _
+      (omega (arith, marks-short (repeated 1 k), length-tab {A = ℕ} (λ _. 1) k)) (omega arith)

@@ -87,7 +87,8 @@ module _ (a b : ℕ → ℕ → Float) (k n : ℕ) (same : (p i : ℕ) → p < k
   phased-same z s =
       let phase : List ℕ = keep (isSet (s .free)) k in
       rw (
-        phase-same z (λ p. a (getD phase p 0)) (λ p. b (getD phase p 0)) (length phase) n (inside-same (s .free)) (begun z (λ p. a (getD phase p 0)) (length phase) n (chosen (s .x) phase) (s .ax) (s .rng)),
+        phase-same z (λ p. a (getD phase p 0)) (λ p. b (getD phase p 0)) (length phase) n (inside-same (s .free))
+            (begun z (λ p. a (getD phase p 0)) (length phase) n (chosen (s .x) phase) (s .ax) (s .rng)),
         begun-same z (λ p. a (getD phase p 0)) (λ p. b (getD phase p 0)) (length phase) n (inside-same (s .free)) (chosen (s .x) phase) (s .ax) (s .rng),
       )
 
@@ -98,4 +99,8 @@ module _ (a b : ℕ → ℕ → Float) (k n : ℕ) (same : (p i : ℕ) → p < k
   pub coloring-same : (z : Float) (rng : ℕ) → coloringOf z a k n rng ≡ coloringOf z b k n rng
   unfolding coloringOf
   coloring-same z rng =
-      rw (walked-same z rng, times-same plusZero a b k n same (walked z b k n rng .x), searched-same (walked z b k n rng .x) (times plusZero b k n (walked z b k n rng .x)) (length-tab _ n))
+      rw (
+        walked-same z rng,
+        times-same plusZero a b k n same (walked z b k n rng .x),
+        searched-same (walked z b k n rng .x) (times plusZero b k n (walked z b k n rng .x)) (length-tab _ n),
+      )

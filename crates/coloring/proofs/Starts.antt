@@ -65,7 +65,8 @@ settled-same b b' r = ap (λ (free : List ℕ). eqb (freeOnes free) 0) (r .free)
 module _ (z : Float) (start : Alike z plusZero) (a : ℕ → ℕ → Float) (k n : ℕ) where
   -- a phase on the same free columns
   inside-alike : {x x' ax ax' : List Float} (free : List ℕ) (rng : ℕ) → AlikeList x x' → AlikeList ax ax'
-      → AlikeBetween (phased z a k n (record { x = x; free = free; ax = ax; rng = rng })) (phased plusZero a k n (record { x = x'; free = free; ax = ax'; rng = rng }))
+      → AlikeBetween (phased z a k n (record { x = x; free = free; ax = ax; rng = rng }))
+      (phased plusZero a k n (record { x = x'; free = free; ax = ax'; rng = rng }))
   unfolding phased
   inside-alike {x} {x'} {ax} {ax'} free rng p q =
       let phase : List ℕ = keep (isSet free) k in
@@ -114,7 +115,8 @@ module _ (a : ℕ → ℕ → Float) (k n rng : ℕ) where
   colours-same : walked minusZero a k n rng .x ≡ walked plusZero a k n rng .x
   colours-same =
       let c : Coloured k (walked minusZero a k n rng .x) = walk-colours minusZero a k n rng in
-      nonzero-same (walked-alike minusZero minus-start a k n rng .x) (λ j h. colour-nonzero (at (walked minusZero a k n rng .x) j) (c .each j (rw (c .long) at h)))
+      nonzero-same (walked-alike minusZero minus-start a k n rng .x)
+      (λ j h. colour-nonzero (at (walked minusZero a k n rng .x) j) (c .each j (rw (c .long) at h)))
 
   pub starts-alike : coloringOf minusZero a k n rng ≡ coloringOf plusZero a k n rng
   unfolding coloringOf

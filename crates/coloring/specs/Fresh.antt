@@ -1,4 +1,4 @@
--- Where the walk starts.
+-- Told between functions: where the walk starts.
 use Prim.Native.Nat.{ℕ}
 use mathlib.Core.Path.{_≡_}
 use mathlib.Core.List.{List}

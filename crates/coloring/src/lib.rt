@@ -13,7 +13,8 @@ ghost use Rattle.entries.specs.Rows.{times};
 ghost use Rattle.search.specs.Search.{searched};
 ghost use Rattle.walk.specs.Walk.{freeOnes};
 ghost use Rattle.coloring.specs.Coloring.{walked, coloringOf};
-ghost use Rattle.entries.specs.Entries.{entryOf, Chosen};
+ghost use Rattle.entries.specs.Entries.{entryOf};
+ghost use Rattle.entries.specs.ChosenColumns.{Chosen};
 ghost use Rattle.freeze.specs.Held.{Roomy};
 ghost use Rattle.phasing.specs.Phasing.{between};
 ghost use Rattle.coloring.specs.Fresh.{Fresh};
@@ -45,8 +46,11 @@ fn walk(
     scale: &[f64],
     rng: SplitMix64,
 ) -> SplitMix64
-    requires { ⌜ Chosen (now u) n (now cols) (now scale) (length (now blocked)) × Roomy (length (now cols)) (now num) (now blocked) (now x) (now free) 0 × Fresh (length (now cols)) (length (now blocked)) (now num) (now x) (now free) ⌝ }
-    ensures { λ r. ⌜ between (length (now (blocked .entry))) (now (num .exit)) (now (x .exit)) (now (free .exit)) (r .state) ≡ walked plusZero (entryOf (now (u .entry)) n (now (cols .entry)) (now (scale .entry))) (length (now (cols .entry))) (length (now (blocked .entry))) (rng .state) ⌝ }
+    requires { ⌜ Chosen (now u) n (now cols) (now scale) (length (now blocked)) × Roomy (length (now cols)) (now num)
+        (now blocked) (now x) (now free) 0 × Fresh (length (now cols)) (length (now blocked)) (now num) (now x) (now free) ⌝ }
+    ensures { λ r. ⌜ between (length (now (blocked .entry))) (now (num .exit)) (now (x .exit)) (now (free .exit))
+        (r .state) ≡ walked plusZero (entryOf (now (u .entry)) n (now (cols .entry)) (now (scale .entry)))
+        (length (now (cols .entry))) (length (now (blocked .entry))) (rng .state) ⌝ }
 {
     let mut places = [0u32; 256];
     let mut subcols = [0u32; 256];
@@ -92,8 +96,11 @@ fn walk_anew(
     scale: &[f64],
     rng: SplitMix64,
 ) -> SplitMix64
-    requires { ⌜ Chosen (now u) n (now cols) (now scale) (length (now blocked)) × Roomy (length (now cols)) (now num) (now blocked) (now x) (now free) 0 ⌝ }
-    ensures { λ r. ⌜ between (length (now (blocked .entry))) (now (num .exit)) (now (x .exit)) (now (free .exit)) (r .state) ≡ walked plusZero (entryOf (now (u .entry)) n (now (cols .entry)) (now (scale .entry))) (length (now (cols .entry))) (length (now (blocked .entry))) (rng .state) ⌝ }
+    requires { ⌜ Chosen (now u) n (now cols) (now scale) (length (now blocked)) × Roomy (length (now cols)) (now num)
+        (now blocked) (now x) (now free) 0 ⌝ }
+    ensures { λ r. ⌜ between (length (now (blocked .entry))) (now (num .exit)) (now (x .exit)) (now (free .exit))
+        (r .state) ≡ walked plusZero (entryOf (now (u .entry)) n (now (cols .entry)) (now (scale .entry)))
+        (length (now (cols .entry))) (length (now (blocked .entry))) (rng .state) ⌝ }
 {
     let rows = blocked.len();
     clear(&mut x[..]);
@@ -105,7 +112,10 @@ fn walk_anew(
 // Local search from the colours x, with A x anew.
 fn search_anew(ax: &mut [f64], x: &mut [f64], u: &[f64], n: usize, cols: &[u32], scale: &[f64])
     requires { ⌜ Chosen (now u) n (now cols) (now scale) (length (now ax)) × (length (now x) ≡ length (now cols)) ⌝ }
-    ensures { λ _. ⌜ now (x .exit) ≡ searched (entryOf (now (u .entry)) n (now (cols .entry)) (now (scale .entry))) (length (now (cols .entry))) (now (x .entry)) (times plusZero (entryOf (now (u .entry)) n (now (cols .entry)) (now (scale .entry))) (length (now (cols .entry))) (length (now (ax .entry))) (now (x .entry))) ⌝ }
+    ensures { λ _. ⌜ now (x .exit) ≡ searched (entryOf (now (u .entry)) n (now (cols .entry)) (now (scale .entry)))
+        (length (now (cols .entry))) (now (x .entry)) (times plusZero
+        (entryOf (now (u .entry)) n (now (cols .entry)) (now (scale .entry))) (length (now (cols .entry)))
+        (length (now (ax .entry))) (now (x .entry))) ⌝ }
 {
     times_into(&mut ax[..], u, n, cols, scale, &x[..]);
     local_search(ax, x, u, n, cols, scale);
@@ -122,8 +132,14 @@ pub fn coloring(
     blocked: &mut [u32],
     rng: SplitMix64,
 ) -> SplitMix64
-    requires { ⌜ Chosen (now u) n (now cols) (now scale) (length (now blocked)) × (length (now x) ≡ length (now cols)) × (length (now blocked) + length (now blocked) + length (now blocked) + length (now cols) * length (now cols) ≤ length (now num)) ⌝ }
-    ensures { λ r. ⌜ (now (x .exit) ≡ coloringOf plusZero (entryOf (now (u .entry)) n (now (cols .entry)) (now (scale .entry))) (length (now (cols .entry))) (length (now (blocked .entry))) (rng .state) .x) × (r .state ≡ coloringOf plusZero (entryOf (now (u .entry)) n (now (cols .entry)) (now (scale .entry))) (length (now (cols .entry))) (length (now (blocked .entry))) (rng .state) .rng) ⌝ }
+    requires { ⌜ Chosen (now u) n (now cols) (now scale) (length (now blocked)) × (length (now x) ≡ length (now cols)) × (length
+        (now blocked) + length (now blocked) + length (now blocked) + length (now cols) * length (now cols) ≤ length
+        (now num)) ⌝ }
+    ensures { λ r. ⌜ (now (x .exit) ≡ coloringOf plusZero
+        (entryOf (now (u .entry)) n (now (cols .entry)) (now (scale .entry))) (length (now (cols .entry)))
+        (length (now (blocked .entry))) (rng .state) .x) × (r .state ≡ coloringOf plusZero
+        (entryOf (now (u .entry)) n (now (cols .entry)) (now (scale .entry))) (length (now (cols .entry)))
+        (length (now (blocked .entry))) (rng .state) .rng) ⌝ }
 {
     let k = cols.len();
     let rows = blocked.len();

@@ -7,7 +7,7 @@ use native.Mathlib.Numerals.{add-one}
 use native.Mathlib.Omega.{arith}
 use lib.Dec.{T}
 use lib.Ieee.Bits.{is-true}
-use lib.Ieee.{Float, nan, inf, fin, binary64, ofBits, lt, le, fits}
+use lib.Ieee.{Float, nan, binary64, ofBits, lt, le, fits}
 use Rattle.ieee.specs.Magnitude.{absOf, largerOf, largestTo, maxAbsTo}
 use Rattle.ieee.specs.Units.{isNum}
 use Rattle.ieee.proofs.Ranks.{Number, lt-not-le, le-transitive, not-under, none-below, nan-or-number}
@@ -33,14 +33,16 @@ module _ (v : ℕ → Float) (held : (j : ℕ) → T (fits binary64 (v j))) (b :
   big j h = record { held = abs-fits binary64 (v j) (held j); num = h }
 
   reaches : (k n : ℕ) → k < n → T (isNum (absOf (v k))) → T (le (absOf (v k)) (maxAbsTo v n))
-  reaches k n l h = subst (λ (x : Float). T (le (absOf (v k)) x)) (sym (as-largest v n)) (largest-ge binary64 (λ (j : ℕ). absOf (v j)) n (λ j g. abs-fits binary64 (v j) (held j)) k l h)
+  reaches k n l h = subst (λ (x : Float). T (le (absOf (v k)) x)) (sym (as-largest v n))
+      (largest-ge binary64 (λ (j : ℕ). absOf (v j)) n (λ j g. abs-fits binary64 (v j) (held j)) k l h)
 
   starts : (n : ℕ) → T (le (maxAbsTo v 0) (maxAbsTo v n))
   starts zero = le-self (number 0)
   starts (suc n) = le-transitive (number 0) (number n) (number (suc n)) (starts n) (grows (nan-or-number (absOf (v n))))
     where
       grows : (absOf (v n) ≡ nan) ⊎ T (isNum (absOf (v n))) → T (le (maxAbsTo v n) (maxAbsTo v (suc n)))
-      grows (inl e) = unfold maxAbsTo in subst (λ (y : Float). T (le (maxAbsTo v n) (largerOf (maxAbsTo v n) y))) (sym e) (subst (λ (y : Float). T (le (maxAbsTo v n) y)) (sym (larger-nan (maxAbsTo v n))) (le-self (number n)))
+      grows (inl e) = unfold maxAbsTo in subst (λ (y : Float). T (le (maxAbsTo v n) (largerOf (maxAbsTo v n) y))) (sym e)
+          (subst (λ (y : Float). T (le (maxAbsTo v n) y)) (sym (larger-nan (maxAbsTo v n))) (le-self (number n)))
       grows (inr h) = unfold maxAbsTo in larger-is (number n) (big n h) .first
 
   -- what lies at or above the bound and at or below the largest magnitude
@@ -74,12 +76,14 @@ module _ (v : ℕ → Float) (held : (j : ℕ) → T (fits binary64 (v j))) (b :
     where
       go : (b ≡ nan) ⊎ T (isNum b) → (absOf (v k) ≡ nan) ⊎ T (isNum (absOf (v k))) → lt (maxAbsTo v (suc k)) b ≡ true
       go (inl h) w = absurd (false≢true (sym (none-below (maxAbsTo v k)) ∙ ap (λ (y : Float). lt (maxAbsTo v k) y) (sym h) ∙ e))
-      go (inr h) (inl w) = unfold maxAbsTo in ap (λ (y : Float). lt (largerOf (maxAbsTo v k) y) b) w ∙ ap (λ (y : Float). lt y b) (larger-nan (maxAbsTo v k)) ∙ e
+      go (inr h) (inl w) = unfold maxAbsTo in ap (λ (y : Float). lt (largerOf (maxAbsTo v k) y) b) w ∙ ap (λ (y : Float). lt y b)
+          (larger-nan (maxAbsTo v k)) ∙ e
       go (inr h) (inr w) =
           let q : Number binary64 b = record { held = good; num = h } in
           unfold maxAbsTo in which q (larger-is (number k) (big k w) .either)
         where
-          which : Number binary64 b → (largerOf (maxAbsTo v k) (absOf (v k)) ≡ maxAbsTo v k) ⊎ (largerOf (maxAbsTo v k) (absOf (v k)) ≡ absOf (v k)) → lt (largerOf (maxAbsTo v k) (absOf (v k))) b ≡ true
+          which : Number binary64 b → (largerOf (maxAbsTo v k) (absOf (v k)) ≡ maxAbsTo v k) ⊎ (largerOf (maxAbsTo v k) (absOf (v k)) ≡ absOf (v k))
+              → lt (largerOf (maxAbsTo v k) (absOf (v k))) b ≡ true
           which q (inl g) = ap (λ (y : Float). lt y b) g ∙ e
           which q (inr g) = ap (λ (y : Float). lt y b) g ∙ lt-not-le (big k w) q ∙ ap not f
 

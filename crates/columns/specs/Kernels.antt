@@ -1,22 +1,22 @@
--- What a column does to a vector over the rows, row by row.
+-- Told between functions: what a column does to a vector over the rows, row by row.
 use Prim.Native.Nat.{ℕ}
 use mathlib.Core.List.{List}
 use lib.Ieee.{Float, binary64, add, sub, mul}
 use Rattle.seq.specs.Sums.{at}
 
 -- acc + column g
-abbrev pub plusAt : (ℕ → Float) → Float → List Float → ℕ → Float
-plusAt column g acc i = add binary64 (at acc i) (mul binary64 (column i) g)
+abbrev pub plusColumn : (ℕ → Float) → Float → List Float → ℕ → Float
+plusColumn column g acc i = add binary64 (at acc i) (mul binary64 (column i) g)
 
 -- acc + column g + other h
-abbrev pub plusTwo : (ℕ → Float) → Float → (ℕ → Float) → Float → List Float → ℕ → Float
-plusTwo column g other h acc i =
+abbrev pub plusColumns : (ℕ → Float) → Float → (ℕ → Float) → Float → List Float → ℕ → Float
+plusColumns column g other h acc i =
     add binary64 (add binary64 (at acc i) (mul binary64 (column i) g)) (mul binary64 (other i) h)
 
 -- acc + column²
-abbrev pub squaredAt : (ℕ → Float) → List Float → ℕ → Float
-squaredAt column acc i = add binary64 (at acc i) (mul binary64 (column i) (column i))
+abbrev pub plusSquares : (ℕ → Float) → List Float → ℕ → Float
+plusSquares column acc i = add binary64 (at acc i) (mul binary64 (column i) (column i))
 
 -- ax - t column
-abbrev pub lessAt : (ℕ → Float) → Float → List Float → ℕ → Float
-lessAt column t ax i = sub binary64 (at ax i) (mul binary64 t (column i))
+abbrev pub lessColumn : (ℕ → Float) → Float → List Float → ℕ → Float
+lessColumn column t ax i = sub binary64 (at ax i) (mul binary64 t (column i))

@@ -7,12 +7,13 @@ ghost use lib.Ieee.{lt};
 ghost use Rattle.seq.specs.Lists.{tabulate};
 ghost use Rattle.ieee.specs.Magnitude.{maxAbsTo};
 ghost use Rattle.columns.specs.Columns.{scaledAt};
-ghost use Rattle.columns.specs.Kernels.{plusAt, plusTwo, squaredAt, lessAt};
+ghost use Rattle.columns.specs.Kernels.{plusColumn, plusColumns, plusSquares, lessColumn};
 
 // acc + g times the column.
 pub fn add_column(acc: &mut [f64], column: &[f64], s: f64, g: f64)
     requires { ⌜ (length (now column) ≤ length (now acc)) × (length (now acc) ≤ length (now column) + 1) ⌝ }
-    ensures { λ _. ⌜ now (acc .exit) ≡ tabulate (plusAt (scaledAt (now (column .entry)) s) g (now (acc .entry))) (length (now (acc .entry))) ⌝ }
+    ensures { λ _. ⌜ now (acc .exit) ≡ tabulate (plusColumn (scaledAt (now (column .entry)) s) g (now (acc .entry)))
+        (length (now (acc .entry))) ⌝ }
 {
     let mut i = 0usize;
     while i < column.len() {
@@ -27,7 +28,8 @@ pub fn add_column(acc: &mut [f64], column: &[f64], s: f64, g: f64)
 // acc + the column's squares.
 pub fn add_squares(acc: &mut [f64], column: &[f64], s: f64)
     requires { ⌜ (length (now column) ≤ length (now acc)) × (length (now acc) ≤ length (now column) + 1) ⌝ }
-    ensures { λ _. ⌜ now (acc .exit) ≡ tabulate (squaredAt (scaledAt (now (column .entry)) s) (now (acc .entry))) (length (now (acc .entry))) ⌝ }
+    ensures { λ _. ⌜ now (acc .exit) ≡ tabulate (plusSquares (scaledAt (now (column .entry)) s) (now (acc .entry)))
+        (length (now (acc .entry))) ⌝ }
 {
     let mut i = 0usize;
     while i < column.len() {
@@ -44,7 +46,8 @@ pub fn add_squares(acc: &mut [f64], column: &[f64], s: f64)
 // Whether the largest magnitude of ax - t times the column is below a bound. The first row that is not settles it.
 pub fn stays_below(ax: &[f64], column: &[f64], s: f64, t: f64, bound: f64) -> bool
     requires { ⌜ (length (now column) ≤ length (now ax)) × (length (now ax) ≤ length (now column) + 1) ⌝ }
-    ensures { λ r. ⌜ r ≡ lt (maxAbsTo (lessAt (scaledAt (now (column .entry)) s) t (now (ax .entry))) (length (now (ax .entry)))) bound ⌝ }
+    ensures { λ r. ⌜ r ≡ lt (maxAbsTo (lessColumn (scaledAt (now (column .entry)) s) t (now (ax .entry)))
+        (length (now (ax .entry)))) bound ⌝ }
 {
     if !(0.0 < bound) {
         return false;
@@ -65,7 +68,8 @@ pub fn stays_below(ax: &[f64], column: &[f64], s: f64, t: f64, bound: f64) -> bo
 // ax - t times the column.
 pub fn less_column(ax: &mut [f64], column: &[f64], s: f64, t: f64)
     requires { ⌜ (length (now column) ≤ length (now ax)) × (length (now ax) ≤ length (now column) + 1) ⌝ }
-    ensures { λ _. ⌜ now (ax .exit) ≡ tabulate (lessAt (scaledAt (now (column .entry)) s) t (now (ax .entry))) (length (now (ax .entry))) ⌝ }
+    ensures { λ _. ⌜ now (ax .exit) ≡ tabulate (lessColumn (scaledAt (now (column .entry)) s) t (now (ax .entry)))
+        (length (now (ax .entry))) ⌝ }
 {
     let mut i = 0usize;
     while i < column.len() {
@@ -79,8 +83,11 @@ pub fn less_column(ax: &mut [f64], column: &[f64], s: f64, t: f64)
 
 // acc + two columns, each times its g, in order.
 pub fn add_two(acc: &mut [f64], first: &[f64], s: f64, g: f64, second: &[f64], t: f64, h: f64)
-    requires { ⌜ (length (now second) ≡ length (now first)) × (length (now first) ≤ length (now acc)) × (length (now acc) ≤ length (now first) + 1) ⌝ }
-    ensures { λ _. ⌜ now (acc .exit) ≡ tabulate (plusTwo (scaledAt (now (first .entry)) s) g (scaledAt (now (second .entry)) t) h (now (acc .entry))) (length (now (acc .entry))) ⌝ }
+    requires { ⌜ (length (now second) ≡ length (now first)) × (length (now first) ≤ length (now acc)) ×
+        (length (now acc) ≤ length (now first) + 1) ⌝ }
+    ensures { λ _. ⌜ now (acc .exit) ≡ tabulate
+        (plusColumns (scaledAt (now (first .entry)) s) g (scaledAt (now (second .entry)) t) h (now (acc .entry)))
+        (length (now (acc .entry))) ⌝ }
 {
     let mut i = 0usize;
     while i < first.len() {

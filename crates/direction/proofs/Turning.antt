@@ -1,6 +1,6 @@
 -- A turn of a loop that fills, where it may leave the place as it was: both arms of a choice are shown to give what the definition says.
-use Prim.Native.Nat.{ℕ, suc, _+_, _≤_, _<_}
-use mathlib.Core.Path.{_≡_, refl, sym, ap, _∙_}
+use Prim.Native.Nat.{ℕ, _+_, _≤_, _<_}
+use mathlib.Core.Path.{_≡_, ap, _∙_}
 use mathlib.Core.Bool.{true, false}
 use mathlib.Core.List.{List, _++_}
 use native.Mathlib.Omega.{arith}
@@ -8,16 +8,14 @@ use native.Mathlib.Numerals.{add-one}
 use native.Mathlib.Nat.{zero-add}
 use borrow.Author.Tests.{eq-eqb, ne-eqb}
 use lib.ListN.{length, getD, drop, set}
-use lib.Ieee.{Float, nan, binary64, neg, ofBits, add, sub, mul, div, ne, le}
-use lib.Seq.{drop-cons, append-snoc}
-use Rattle.seq.specs.Lists.{tabulate, part}
+use lib.Ieee.{Float, nan, binary64, add, sub, mul, div, ne, le}
+use Rattle.seq.specs.Lists.{part}
 use Rattle.seq.specs.Sums.{plusZero, at}
 use Rattle.seq.proofs.Filling.{Filled, turn, still, still-after}
 use Rattle.seq.proofs.Parts.{getD-part, length-part}
 use Rattle.ieee.specs.Magnitude.{signumOf, smallerOf}
 use Rattle.linear.specs.Vectors.{normOf}
 use Rattle.linear.specs.Basis.{projected}
-use Rattle.ieee.specs.Constants.{one, minusOne}
 use Rattle.direction.specs.Direction.{degenerate, zeroed, directed, tooShort}
 use Rattle.direction.specs.Step.{reachTo, along, alongAt}
 

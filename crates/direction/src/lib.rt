@@ -9,7 +9,7 @@ ghost use mathlib.Core.Path.{_≡_};
 ghost use mathlib.Core.List.{_++_};
 ghost use Prim.Native.Nat.{_≤_, _*_, _+_};
 ghost use lib.ListN.{length, drop};
-ghost use Rattle.seq.specs.Lists.{tabulate, part};
+ghost use Rattle.seq.specs.Lists.{part};
 ghost use Rattle.seq.specs.Sums.{plusZero};
 ghost use Rattle.linear.specs.Held.{vectorsIn};
 ghost use Rattle.direction.specs.Direction.{afterDraws, drawn, zeroed, directed, tooShort, turned};
@@ -17,7 +17,8 @@ ghost use Rattle.direction.specs.Step.{reachTo, moved, along};
 
 // Fills g with draws; the generator after them.
 pub fn draw_into(g: &mut [f64], rng: SplitMix64) -> SplitMix64
-    ensures { λ r. ⌜ (now (g .exit) ≡ drawn (rng .state) (length (now (g .entry)))) × (r .state ≡ afterDraws (rng .state) (length (now (g .entry)))) ⌝ }
+    ensures { λ r. ⌜ (now (g .exit) ≡ drawn (rng .state) (length (now (g .entry)))) ×
+        (r .state ≡ afterDraws (rng .state) (length (now (g .entry)))) ⌝ }
 {
     let mut r = rng;
     let mut i = 0usize;
@@ -47,7 +48,9 @@ fn zero_frozen(g: &mut [f64], free: &[u32])
 // Projects the draws in g and zeroes them at the frozen places; whether too little is left.
 pub fn direct(basis: &[f64], count: usize, l: usize, free: &[u32], g: &mut [f64]) -> bool
     requires { ⌜ (length (now g) ≡ l) × (length (now free) ≡ l) × (count * l ≤ length (now basis)) ⌝ }
-    ensures { λ r. ⌜ (now (g .exit) ≡ directed plusZero (vectorsIn l count (now (basis .entry))) (now (free .entry)) (now (g .entry))) × (r ≡ tooShort plusZero (now (g .entry)) (directed plusZero (vectorsIn l count (now (basis .entry))) (now (free .entry)) (now (g .entry)))) ⌝ }
+    ensures { λ r. ⌜ (now (g .exit) ≡ directed plusZero (vectorsIn l count (now (basis .entry))) (now (free .entry)) (now (g .entry)))
+        × (r ≡ tooShort plusZero (now (g .entry))
+        (directed plusZero (vectorsIn l count (now (basis .entry))) (now (free .entry)) (now (g .entry)))) ⌝ }
 {
     let drawn_norm = norm(&g[..]);
     project_out(basis, count, l, g);
@@ -103,7 +106,8 @@ pub fn move_free(x: &mut [f64], t: f64, g: &[f64], free: &[u32])
 // A x moved by t along A g: the first rows of both, and the next as many.
 pub fn move_rows(both: &mut [f64], rows: usize, t: f64)
     requires { ⌜ length (now both) ≡ rows + rows ⌝ }
-    ensures { λ _. ⌜ now (both .exit) ≡ along t (part 0 rows (now (both .entry))) (part rows rows (now (both .entry))) ++ drop rows (now (both .entry)) ⌝ }
+    ensures { λ _. ⌜ now (both .exit) ≡ along t (part 0 rows (now (both .entry))) (part rows rows (now (both .entry))) ++ drop
+        rows (now (both .entry)) ⌝ }
 {
     let mut i = 0usize;
     while i < rows {

@@ -1,4 +1,5 @@
--- What holds of the arguments of a colouring that is not refused: no test of `coloringFault` held, so the sizes fit. And the number once they do: the entries decide.
+-- What holds of the arguments of a colouring that is not refused: no test of `coloringFault` held, so the sizes fit. And the number once they do: the
+-- entries decide.
 use borrow.Author.Tests.{eqb-true, not-false, eq-eqb}
 use Prim.Native.Nat.{ℕ, _+_, _*_, _≤_}
 use mathlib.Core.Path.{_≡_, refl}

@@ -14,7 +14,8 @@ use Rattle.seq.specs.Sums.{plusZero, at}
 use Rattle.seq.proofs.Filling.{length-tab, getD-tab, room}
 use Rattle.ieee.proofs.Products.{times-one}
 use Rattle.ieee.proofs.Division.{unit-is}
-use Rattle.entries.specs.Entries.{entryOf, Chosen}
+use Rattle.entries.specs.Entries.{entryOf}
+use Rattle.entries.specs.ChosenColumns.{Chosen}
 use Rattle.entries.proofs.Reading.{entry-own, entry-under}
 use Rattle.ieee.specs.Constants.{one}
 use Rattle.coloring.specs.Coloring.{Colored, coloringOf}
@@ -40,13 +41,19 @@ module _ (u : List Float) (m n : ℕ) (area : length u ≡ m * n) where
   inside p h = rw (getD-tab (λ i. i) m p 0 h, area) (room p m n h)
 
   -- an entry within the bound is finite, and so is 1.0 under it
-  finite-own : ((i : ℕ) → T (fits binary64 (at u i))) → bounded mostEntry u ≡ true → (p i : ℕ) → p < m → T (finite (at (unscaled m) p)) → T (finite (entryOf u n (inOrder m) (unscaled m) p i))
+  finite-own : ((i : ℕ) → T (fits binary64 (at u i))) → bounded mostEntry u ≡ true → (p i : ℕ) → p < m → T
+      (finite (at (unscaled m) p)) → T (finite (entryOf u n (inOrder m) (unscaled m) p i))
   unfolding ofBits
   finite-own known within p i h t = go (decLt i n)
     where
       go : Dec (i < n) → T (finite (entryOf u n (inOrder m) (unscaled m) p i))
       go (yes k) =
-          rw (entry-own u n (inOrder m) (unscaled m) p i (inside p h) k, getD-tab (λ i. i) m p 0 h, getD-tab (λ i. one) m p nan h, unscaled-is (at u (p * n + i)) (known (p * n + i)))
+          rw (
+            entry-own u n (inOrder m) (unscaled m) p i (inside p h) k,
+            getD-tab (λ i. i) m p 0 h,
+            getD-tab (λ i. one) m p nan h,
+            unscaled-is (at u (p * n + i)) (known (p * n + i)),
+          )
           (finite-within (at u (p * n + i)) _ _ _ (bounded-at mostEntry u within (p * n + i) (omega (arith, room p m n h))))
       go (no k) = rw (entry-under u n (inOrder m) (unscaled m) p i (inside p h) (omega arith), getD-tab (λ i. one) m p nan h) tt
 
@@ -78,8 +85,10 @@ module _ (u : List Float) (m n : ℕ) (cols : List ℕ) (scale : List Float) (bl
   many = rw ordered (length-tab (λ i. i) m)
 
   -- what the colouring of those columns asks for
-  pub own-asked : (x num : List Float) → m ≤ 256 → n ≤ 4096 → ((i : ℕ) → T (fits binary64 (at u i))) → bounded mostEntry u ≡ true → length x ≡ m → n + n + n + m * m ≤ length num
-      → Chosen u n cols scale (length blocked) × (length x ≡ length cols) × (length blocked + length blocked + length blocked + length cols * length cols ≤ length num)
+  pub own-asked : (x num : List Float) → m ≤ 256 → n ≤ 4096 → ((i : ℕ) → T (fits binary64 (at u i))) → bounded mostEntry u ≡ true
+      → length x ≡ m → n + n + n + m * m ≤ length num
+      → Chosen u n cols scale (length blocked) × (length x ≡ length cols) ×
+      (length blocked + length blocked + length blocked + length cols * length cols ≤ length num)
   own-asked x num few short known within wide room =
       (rw (ordered, ones, rows) (own-chosen u m n area few short known within), wide ∙ sym many, rw (rows, many) room)
 

@@ -6,7 +6,8 @@ use lib.IntN.{ℤ}
 use lib.Ieee.{Float}
 use Rattle.discrepancy.specs.Discrepancy.{DiscrepancyColored}
 
-pub one-answer : {u : List Float} {m n seed : ℕ} {output : List ℤ} {numbers : List Float} {indices : List ℕ} {r s : ℕ} {a b : List ℤ} {v w : List Float} {i j : List ℕ}
+pub one-answer : {u : List Float} {m n seed : ℕ} {output : List ℤ} {numbers : List Float} {indices : List ℕ} {r s : ℕ}
+    {a b : List ℤ} {v w : List Float} {i j : List ℕ}
     → DiscrepancyColored u m n seed output numbers indices r a v i → DiscrepancyColored u m n seed output numbers indices s b w j
     → (r ≡ s) × (a ≡ b) × (v ≡ w) × (i ≡ j)
 one-answer p q =

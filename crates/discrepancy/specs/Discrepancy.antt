@@ -35,7 +35,8 @@ unfoldable pub coloursOf : List Float → ℕ → ℕ → ℕ → List ℤ
 coloursOf u m n seed = tabulate (colourAt (coloringOf plusZero (columnsOf u n) m n seed .x)) m
 
 -- the number, and what the call leaves: on a refusal every byte as it was, and else the colours and a scratch of zeros
-pub record DiscrepancyColored (u : List Float) (m n seed : ℕ) (output : List ℤ) (numbers : List Float) (indices : List ℕ) (r : ℕ) (output' : List ℤ) (numbers' : List Float) (indices' : List ℕ) : Type 0 where
+pub record DiscrepancyColored (u : List Float) (m n seed : ℕ) (output : List ℤ) (numbers : List Float) (indices : List ℕ)
+    (r : ℕ) (output' : List ℤ) (numbers' : List Float) (indices' : List ℕ) : Type 0 where
   pub number : r ≡ coloringFault u m n (length output) (length numbers) (length indices)
   pub colours : output' ≡ pick (eqb r 0) (coloursOf u m n seed) output
   pub floats : numbers' ≡ pick (eqb r 0) (repeated plusZero (length numbers)) numbers

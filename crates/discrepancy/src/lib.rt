@@ -67,7 +67,8 @@ fn color_all(
     numbers: &mut [f64],
     indices: &mut [u32],
 )
-    requires { ⌜ (length (now matrix) ≡ m * n) × (m ≤ 256) × (n ≤ 4096) × (length (now x) ≡ m) × (n + n + n + m * m ≤ length (now numbers)) × (n ≤ length (now indices)) × (bounded mostEntry (now matrix) ≡ true) ⌝ }
+    requires { ⌜ (length (now matrix) ≡ m * n) × (m ≤ 256) × (n ≤ 4096) × (length (now x) ≡ m) × (n + n + n + m * m ≤ length (now numbers))
+        × (n ≤ length (now indices)) × (bounded mostEntry (now matrix) ≡ true) ⌝ }
     ensures { λ _. ⌜ now (x .exit) ≡ coloringOf plusZero (columnsOf (now (matrix .entry)) n) m n seed .x ⌝ }
 {
     let mut cols = [0u32; 256];
@@ -98,7 +99,8 @@ fn write_colours(output: &mut [i8], x: &[f64])
     }
 }
 
-// Colours the m columns of n rows, 1 or -1 each, so that every row's sum is small. Answers 0, or the number of a refusal, which changes nothing.
+// Colours the m columns of n rows, 1 or -1 each, so that every row's sum is small. Answers 0, or the number of a refusal, which
+// changes nothing.
 pub fn discrepancy_coloring(
     matrix: &[f64],
     m: usize,
@@ -108,7 +110,8 @@ pub fn discrepancy_coloring(
     numbers: &mut [f64],
     indices: &mut [u32],
 ) -> u64
-    ensures { λ r. ⌜ DiscrepancyColored (now (matrix .entry)) m n seed (now (output .entry)) (now (numbers .entry)) (now (indices .entry)) r (now (output .exit)) (now (numbers .exit)) (now (indices .exit)) ⌝ }
+    ensures { λ r. ⌜ DiscrepancyColored (now (matrix .entry)) m n seed (now (output .entry)) (now (numbers .entry))
+        (now (indices .entry)) r (now (output .exit)) (now (numbers .exit)) (now (indices .exit)) ⌝ }
 {
     let number = coloring_fault(matrix, m, n, output.len(), numbers.len(), indices.len());
     if number != 0 {

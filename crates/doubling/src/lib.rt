@@ -3,8 +3,7 @@ ghost use mathlib.Core.Path.{_≡_};
 ghost use Prim.Native.Nat.{_≤_};
 ghost use lib.ListN.{length};
 ghost use Rattle.seq.specs.Lists.{tabulate};
-ghost use Rattle.seq.specs.Keep.{Pushed};
-ghost use Rattle.seq.specs.Indices.{Below};
+ghost use Rattle.seq.specs.Indices.{Pushed, Below};
 ghost use Rattle.doubling.specs.Doubling.{remaining, scaleAt, sigmaOf, halvedTo};
 
 // The remaining rest at the front of out; how many.

@@ -18,13 +18,15 @@ use Rattle.seq.proofs.Summing.{sum-more}
 use Rattle.ieee.specs.Flat.{isZero}
 use Rattle.ieee.proofs.Zeros.{plus-nothing, sum-fits, sum-never-minus, nonzero-not-zero}
 use Rattle.ieee.proofs.Skips.{mul-by-zero}
-use Rattle.entries.specs.Entries.{entryOf, Chosen}
-use Rattle.columns.specs.Kernels.{plusAt, plusTwo}
+use Rattle.entries.specs.Entries.{entryOf}
+use Rattle.entries.specs.ChosenColumns.{Chosen}
+use Rattle.columns.specs.Kernels.{plusColumn, plusColumns}
 use Rattle.entries.specs.PassedOver.{PassedOver}
 use Rattle.entries.specs.Rows.{times}
 
 -- terms that are zeros add nothing
-more-zeros : (v : ℕ → Float) (a d : ℕ) → ((k : ℕ) → T (fits binary64 (v k))) → ((k : ℕ) → a ≤ k → k < a + d → T (isZero (v k))) → sumTo plusZero v (a + d) ≡ sumTo plusZero v a
+more-zeros : (v : ℕ → Float) (a d : ℕ) → ((k : ℕ) → T (fits binary64 (v k))) → ((k : ℕ) → a ≤ k → k < a + d → T (isZero (v k))) → sumTo
+    plusZero v (a + d) ≡ sumTo plusZero v a
 unfolding ofBits
 more-zeros v a zero h z = ap (sumTo plusZero v) (omega arith)
 more-zeros v a (suc d) h z =
@@ -34,7 +36,8 @@ more-zeros v a (suc d) h z =
     ∙ more-zeros v a d h (λ k l m. z k l (omega arith))
   where
     nothing : add binary64 (sumTo plusZero v (a + d)) (v (a + d)) ≡ sumTo plusZero v (a + d)
-    nothing = plus-nothing binary64 (sumTo plusZero v (a + d)) (v (a + d)) (sum-fits binary64 v (a + d)) (h (a + d)) (sum-never-minus binary64 v (a + d) (λ j l. h j)) (z (a + d) (omega arith) (omega arith))
+    nothing = plus-nothing binary64 (sumTo plusZero v (a + d)) (v (a + d)) (sum-fits binary64 v (a + d)) (h (a + d))
+        (sum-never-minus binary64 v (a + d) (λ j l. h j)) (z (a + d) (omega arith) (omega arith))
 
 -- no place, and one place more, is passed over
 pub passed-none : (scale g : List Float) (from : ℕ) → PassedOver scale g from from
@@ -49,7 +52,8 @@ zero-is : (x : Float) → ne x plusZero ≡ false → T (isZero x)
 unfolding ofBits
 zero-is x e = is (isZero x) (sym (nonzero-not-zero x) ∙ e)
 
-pub passed-more : {scale g : List Float} {from p : ℕ} → PassedOver scale g from p → p < length g → ne (at g p) plusZero ≡ false → not (finite (at scale p)) ≡ false → PassedOver scale g from (p + 1)
+pub passed-more : {scale g : List Float} {from p : ℕ} → PassedOver scale g from p → p < length g → ne (at g p) plusZero ≡ false → not
+    (finite (at scale p)) ≡ false → PassedOver scale g from (p + 1)
 passed-more {scale} {g} {from} {p} s h z e =
     record {
       low = omega (arith, s .low);
@@ -77,11 +81,13 @@ module _ (u : List Float) (n : ℕ) (cols : List ℕ) (scale g : List Float) (ro
       ∙ more-zeros (term i) from (r - from) (λ k. mul-fits binary64 (a k i) (at g k))
       (λ k h m. let e = s .nothing k h (omega arith) in mul-by-zero binary64 (a k i) (at g k) (c .sound k i (omega arith) (e .1)) (e .0))
 
-  pub times-passed : (from r : ℕ) (acc : List Float) (k : ℕ) → acc ≡ times plusZero a from k g → PassedOver scale g from r → r ≤ length cols → acc ≡ times plusZero a r k g
+  pub times-passed : (from r : ℕ) (acc : List Float) (k : ℕ) → acc ≡ times plusZero a from k g → PassedOver scale g from r → r ≤ length
+      cols → acc ≡ times plusZero a r k g
   times-passed from r acc k e s l = e ∙ tab-cong _ _ k (λ i h. sym (row-passed from r i s l))
 
   -- one column more
-  pub one-added : (p : ℕ) (acc : List Float) (k : ℕ) → acc ≡ times plusZero a p k g → tabulate (plusAt (a p) (at g p) acc) (length acc) ≡ times plusZero a (p + 1) k g
+  pub one-added : (p : ℕ) (acc : List Float) (k : ℕ) → acc ≡ times plusZero a p k g → tabulate (plusColumn (a p) (at g p) acc)
+      (length acc) ≡ times plusZero a (p + 1) k g
   one-added p acc k e =
       rw (e, length-tab)
       (tab-cong _ _ k (λ i h.
@@ -89,8 +95,10 @@ module _ (u : List Float) (n : ℕ) (cols : List ℕ) (scale g : List Float) (ro
 
   -- two columns more, with none that adds something between them
   pub two-added : (p q : ℕ) (acc : List Float) (k : ℕ) → acc ≡ times plusZero a p k g → PassedOver scale g (p + 1) q → q ≤ length cols
-      → tabulate (plusTwo (a p) (at g p) (a q) (at g q) acc) (length acc) ≡ times plusZero a (q + 1) k g
+      → tabulate (plusColumns (a p) (at g p) (a q) (at g q) acc) (length acc) ≡ times plusZero a (q + 1) k g
   two-added p q acc k e s l =
       rw (e, length-tab)
       (tab-cong _ _ k (λ i h.
-      rw (getD-tab (λ j. sumTo plusZero (term j) p) k i nan h) (ap (λ (x : Float). add binary64 x (term i q)) (sym (sum-more binary64 plusZero (term i) p) ∙ sym (row-passed (p + 1) q i s l)) ∙ sym (sum-more binary64 plusZero (term i) q))))
+      rw (getD-tab (λ j. sumTo plusZero (term j) p) k i nan h) (ap (λ (x : Float). add binary64 x (term i q))
+      (sym (sum-more binary64 plusZero (term i) p) ∙ sym (row-passed (p + 1) q i s l)) ∙ sym
+      (sum-more binary64 plusZero (term i) q))))

@@ -1,4 +1,4 @@
--- Columns that A g may leave out.
+-- Told between functions: columns that A g may leave out.
 use Prim.Native.Nat.{ℕ, _+_, _≤_, _<_}
 use mathlib.Core.List.{List}
 use lib.Dec.{T}

@@ -11,8 +11,9 @@ ghost use lib.ListN.{length};
 ghost use Rattle.seq.specs.Lists.{tabulate};
 ghost use Rattle.seq.specs.Sums.{plusZero, at};
 ghost use Rattle.entries.specs.Rows.{rowOf, rowNorms, times};
-ghost use Rattle.entries.specs.Entries.{entryOf, Chosen};
-ghost use Rattle.columns.specs.Kernels.{plusAt, plusTwo};
+ghost use Rattle.entries.specs.Entries.{entryOf};
+ghost use Rattle.entries.specs.ChosenColumns.{Chosen};
+ghost use Rattle.columns.specs.Kernels.{plusColumn, plusColumns};
 ghost use Rattle.entries.specs.PassedOver.{PassedOver};
 
 // The entry at row i of column p.
@@ -32,7 +33,8 @@ fn entry(u: &[f64], n: usize, cols: &[u32], scale: &[f64], p: usize, i: usize) -
 // Row i, an entry for each column.
 pub fn row_into(v: &mut [f64], u: &[f64], n: usize, cols: &[u32], scale: &[f64], i: usize)
     requires { ⌜ Chosen (now u) n (now cols) (now scale) n × (length (now v) ≡ length (now cols)) ⌝ }
-    ensures { λ _. ⌜ now (v .exit) ≡ rowOf (entryOf (now (u .entry)) n (now (cols .entry)) (now (scale .entry))) (length (now (cols .entry))) i ⌝ }
+    ensures { λ _. ⌜ now (v .exit) ≡ rowOf (entryOf (now (u .entry)) n (now (cols .entry)) (now (scale .entry)))
+        (length (now (cols .entry))) i ⌝ }
 {
     let mut p = 0usize;
     while p < v.len() {
@@ -70,8 +72,11 @@ fn add_one_at(
     g: &[f64],
     p: usize,
 )
-    requires { ⌜ Chosen (now u) n (now cols) (now scale) (length (now acc)) × (length (now g) ≡ length (now cols)) × (p < length (now cols)) ⌝ }
-    ensures { λ _. ⌜ now (acc .exit) ≡ tabulate (plusAt (entryOf (now (u .entry)) n (now (cols .entry)) (now (scale .entry)) p) (at (now (g .entry)) p) (now (acc .entry))) (length (now (acc .entry))) ⌝ }
+    requires { ⌜ Chosen (now u) n (now cols) (now scale) (length (now acc)) × (length (now g) ≡ length (now cols)) ×
+        (p < length (now cols)) ⌝ }
+    ensures { λ _. ⌜ now (acc .exit) ≡ tabulate (plusColumn
+        (entryOf (now (u .entry)) n (now (cols .entry)) (now (scale .entry)) p) (at (now (g .entry)) p)
+        (now (acc .entry))) (length (now (acc .entry))) ⌝ }
 {
     let a = (cols[p] as usize) * n;
     let e = a + n;
@@ -89,8 +94,12 @@ fn add_two_at(
     p: usize,
     q: usize,
 )
-    requires { ⌜ Chosen (now u) n (now cols) (now scale) (length (now acc)) × (length (now g) ≡ length (now cols)) × (p < length (now cols)) × (q < length (now cols)) ⌝ }
-    ensures { λ _. ⌜ now (acc .exit) ≡ tabulate (plusTwo (entryOf (now (u .entry)) n (now (cols .entry)) (now (scale .entry)) p) (at (now (g .entry)) p) (entryOf (now (u .entry)) n (now (cols .entry)) (now (scale .entry)) q) (at (now (g .entry)) q) (now (acc .entry))) (length (now (acc .entry))) ⌝ }
+    requires { ⌜ Chosen (now u) n (now cols) (now scale) (length (now acc)) × (length (now g) ≡ length (now cols)) × (p < length (now cols))
+        × (q < length (now cols)) ⌝ }
+    ensures { λ _. ⌜ now (acc .exit) ≡ tabulate (plusColumns
+        (entryOf (now (u .entry)) n (now (cols .entry)) (now (scale .entry)) p) (at (now (g .entry)) p)
+        (entryOf (now (u .entry)) n (now (cols .entry)) (now (scale .entry)) q) (at (now (g .entry)) q)
+        (now (acc .entry))) (length (now (acc .entry))) ⌝ }
 {
     let a = (cols[p] as usize) * n;
     let e = a + n;
@@ -102,7 +111,9 @@ fn add_two_at(
 // The matrix times g, two columns at a time, without those that add nothing; each row's sum is in the columns' order.
 pub fn times_into(acc: &mut [f64], u: &[f64], n: usize, cols: &[u32], scale: &[f64], g: &[f64])
     requires { ⌜ Chosen (now u) n (now cols) (now scale) (length (now acc)) × (length (now g) ≡ length (now cols)) ⌝ }
-    ensures { λ _. ⌜ now (acc .exit) ≡ times plusZero (entryOf (now (u .entry)) n (now (cols .entry)) (now (scale .entry))) (length (now (cols .entry))) (length (now (acc .entry))) (now (g .entry)) ⌝ }
+    ensures { λ _. ⌜ now (acc .exit) ≡ times plusZero
+        (entryOf (now (u .entry)) n (now (cols .entry)) (now (scale .entry))) (length (now (cols .entry)))
+        (length (now (acc .entry))) (now (g .entry)) ⌝ }
 {
     clear(&mut acc[..]);
     let mut p = next_live(scale, g, 0);
@@ -121,7 +132,9 @@ pub fn times_into(acc: &mut [f64], u: &[f64], n: usize, cols: &[u32], scale: &[f
 // The sums of the rows' squares.
 pub fn norms_into(acc: &mut [f64], u: &[f64], n: usize, cols: &[u32], scale: &[f64])
     requires { ⌜ Chosen (now u) n (now cols) (now scale) (length (now acc)) ⌝ }
-    ensures { λ _. ⌜ now (acc .exit) ≡ rowNorms plusZero (entryOf (now (u .entry)) n (now (cols .entry)) (now (scale .entry))) (length (now (cols .entry))) (length (now (acc .entry))) ⌝ }
+    ensures { λ _. ⌜ now (acc .exit) ≡ rowNorms plusZero
+        (entryOf (now (u .entry)) n (now (cols .entry)) (now (scale .entry))) (length (now (cols .entry)))
+        (length (now (acc .entry))) ⌝ }
 {
     clear(&mut acc[..]);
     let mut p = 0usize;

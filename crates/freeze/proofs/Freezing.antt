@@ -18,7 +18,7 @@ use Rattle.ieee.specs.Magnitude.{absOf, signumOf}
 use Rattle.linear.specs.Basis.{inserted}
 use Rattle.linear.specs.Held.{vectorsIn, Inserted}
 use Rattle.linear.proofs.Bases.{inserted-most, length-vectors}
-use Rattle.entries.specs.Entries.{Chosen}
+use Rattle.entries.specs.ChosenColumns.{Chosen}
 use Rattle.entries.specs.Rows.{rowOf}
 use Rattle.order.specs.Order.{worstTo}
 use Rattle.freeze.specs.Freeze.{freezeLimit, Walk, axis, freezes, blocking, frozenAt, freezeTo}
@@ -32,7 +32,8 @@ chosen-own c =
 
 -- ---- one insertion into the basis that the scratch holds
 
-module _ (l count r base : ℕ) (num v ys : List Float) (within : base ≤ length num) (i : Inserted plusZero count l (part base (length num - base) num) v r ys) where
+module _ (l count r base : ℕ) (num v ys : List Float) (within : base ≤ length num)
+    (i : Inserted plusZero count l (part base (length num - base) num) v r ys) where
   pub offered-count : r ≡ length (inserted plusZero l (vectorsIn l count (drop base num)) v)
   offered-count = i .counts ∙ ap (λ (b : List Float). length (inserted plusZero l (vectorsIn l count b) v)) (rest-is base num)
 
@@ -42,7 +43,11 @@ module _ (l count r base : ℕ) (num v ys : List Float) (within : base ≤ lengt
       ∙ ap (λ (b : List Float). inserted plusZero l (vectorsIn l count b) v) (rest-is base num)
 
   pub offered-most : count ≤ l → r ≤ l
-  offered-most h = omega (arith, offered-count, inserted-most plusZero l (vectorsIn l count (drop base num)) v (omega (arith, length-vectors l count (drop base num))))
+  offered-most h = omega (
+    arith,
+    offered-count,
+    inserted-most plusZero l (vectorsIn l count (drop base num)) v (omega (arith, length-vectors l count (drop base num))),
+  )
 
 -- ---- the worst row is blocked, where there is room
 
@@ -113,7 +118,8 @@ module _ (a : ℕ → ℕ → Float) (l : ℕ) (num : List Float) (blocked : Lis
   pub freezes-at : (v : List Float) → v ≡ axis l p → s ≡ signumOf (at x p)
       → Inserted plusZero count l (part lent (length num - lent) num) v c ys
       → Blocked a l num1 blocked c r num' blocked' → length blocked' ≡ n
-      → (frozen rng : ℕ) → held num' blocked' (set x p s) (set free p 0) r (frozen + 1) rng ≡ frozenAt plusZero a l n (held num blocked x free count frozen rng) p
+      → (frozen rng : ℕ) → held num' blocked' (set x p s) (set free p 0) r (frozen + 1) rng ≡ frozenAt plusZero a l n
+      (held num blocked x free count frozen rng) p
   unfolding frozenAt
   freezes-at v ev es given b lb frozen rng =
       let o : Inserted plusZero count l (part lent (length num - lent) num) (axis l p) c ys = rw ev at given in
@@ -129,8 +135,10 @@ module _ (a : ℕ → ℕ → Float) (l : ℕ) (num : List Float) (blocked : Lis
       ∙ ap₂ (λ (ax : List Float) (k : ℕ). pick (ltb (worstTo ax blocked n n) n && ltb k l) (set blocked (worstTo ax blocked n n) 1) blocked) ax1 ec)
       (ap₂ (λ (k m : ℕ). basisIn k m r num') lb (length-set x p s ∙ room .wide)
       ∙ b .basis
-      ∙ ap₂ (λ (ax : List Float) (k : ℕ). pick (ltb (worstTo ax blocked n n) n && ltb k l) (blocking plusZero a l (worstTo ax blocked n n) (basisIn n l c num1)) (basisIn n l c num1)) ax1 ec
-      ∙ ap (λ (q : List (List Float)). pick (ltb (worstTo (axIn n num) blocked n n) n && ltb (length grown) l) (blocking plusZero a l (worstTo (axIn n num) blocked n n) q) q) eb)
+      ∙ ap₂ (λ (ax : List Float) (k : ℕ). pick (ltb (worstTo ax blocked n n) n && ltb k l)
+      (blocking plusZero a l (worstTo ax blocked n n) (basisIn n l c num1)) (basisIn n l c num1)) ax1 ec
+      ∙ ap (λ (q : List (List Float)). pick (ltb (worstTo (axIn n num) blocked n n) n && ltb (length grown) l)
+      (blocking plusZero a l (worstTo (axIn n num) blocked n n) q) q) eb)
       refl
 
 -- ---- a basis never has more than l vectors
@@ -180,7 +188,8 @@ count-most l r num blocked x free frozen rng w e h =
 -- ---- the loop that freezes
 
 -- what holds after the coordinates below p were looked at
-pub record Freezing (a : ℕ → ℕ → Float) (l : ℕ) (num₀ : List Float) (blocked₀ : List ℕ) (x₀ : List Float) (free₀ : List ℕ) (v₀ : List Float) (count₀ frozen₀ : ℕ)
+pub record Freezing (a : ℕ → ℕ → Float) (l : ℕ) (num₀ : List Float) (blocked₀ : List ℕ) (x₀ : List Float) (free₀ : List ℕ)
+    (v₀ : List Float) (count₀ frozen₀ : ℕ)
     (num : List Float) (blocked : List ℕ) (x : List Float) (free : List ℕ) (v : List Float) (count frozen p : ℕ) : Type 0 where
   pub upto : p ≤ l
   pub roomy : Roomy l num blocked x free count
@@ -224,13 +233,15 @@ module _ (a : ℕ → ℕ → Float) (l : ℕ) (num₀ : List Float) (blocked₀
           vs = i .vs;
           few = omega (arith, i .few);
           fits = i .fits;
-          holds = λ rng. freeze-none plusZero a l (length blocked₀) (held num₀ blocked₀ x₀ free₀ count₀ frozen₀ rng) (held num blocked x free count frozen rng) p (i .holds rng) f;
+          holds = λ rng. freeze-none plusZero a l (length blocked₀) (held num₀ blocked₀ x₀ free₀ count₀ frozen₀ rng)
+              (held num blocked x free count frozen rng) p (i .holds rng) f;
         }
 
     pub freezing-one : (num' : List Float) (blocked' : List ℕ) (x' : List Float) (free' : List ℕ) (v' : List Float) (r : ℕ)
         → freezes (held num blocked x free count frozen 0) p ≡ true
         → length num' ≡ length num → length blocked' ≡ length blocked → length x' ≡ length x → length free' ≡ length free → length v' ≡ length v
-        → ((frozen rng : ℕ) → held num' blocked' x' free' r (frozen + 1) rng ≡ frozenAt plusZero a l (length blocked) (held num blocked x free count frozen rng) p)
+        → ((frozen rng : ℕ) → held num' blocked' x' free' r (frozen + 1) rng ≡ frozenAt plusZero a l (length blocked)
+        (held num blocked x free count frozen rng) p)
         → Freezing a l num₀ blocked₀ x₀ free₀ v₀ count₀ frozen₀ num' blocked' x' free' v' r (frozen + 1) (p + 1)
     freezing-one num' blocked' x' free' v' r f ln lb lx lf lv h =
         let n : ℕ = length blocked₀ in
@@ -245,7 +256,8 @@ module _ (a : ℕ → ℕ → Float) (l : ℕ) (num₀ : List Float) (blocked₀
             room = omega (arith, ln, lb, q .room, rw (← lb) at (q .room));
             wide = lx ∙ q .wide;
             marks = lf ∙ q .marks;
-            most = count-most l r num' blocked' x' free' (frozen + 1) 0 (freezeTo plusZero a l n (w 0) (p + 1)) (step 0) (freeze-most plusZero a l n (w 0) (p + 1) (i .fits));
+            most = count-most l r num' blocked' x' free' (frozen + 1) 0 (freezeTo plusZero a l n (w 0) (p + 1)) (step 0)
+                (freeze-most plusZero a l n (w 0) (p + 1) (i .fits));
           };
           nums = ln ∙ i .nums;
           rows = lb ∙ i .rows;

@@ -1,4 +1,4 @@
--- How a walk stands in the lent scratch: A x, A g and the row norms side by side, and then the basis.
+-- Told between functions: how a walk stands in the lent scratch, A x, A g and the row norms side by side, and then the basis.
 use Prim.Native.Nat.{ℕ, _+_, _*_, _≤_}
 use mathlib.Core.Path.{_≡_}
 use mathlib.Core.Bool.{Bool, _&&_}
@@ -52,8 +52,10 @@ abbrev pub roomFor : List Float → List ℕ → ℕ → ℕ → Bool
 roomFor num blocked l count = ltb (worstIn num blocked) (length blocked) && ltb count l
 
 -- num', blocked' and the count r after the worst row was blocked, where there was one and the basis of count vectors was short of l
-pub record Blocked (a : ℕ → ℕ → Float) (l : ℕ) (num : List Float) (blocked : List ℕ) (count r : ℕ) (num' : List Float) (blocked' : List ℕ) : Type 0 where
+pub record Blocked (a : ℕ → ℕ → Float) (l : ℕ) (num : List Float) (blocked : List ℕ) (count r : ℕ)
+    (num' : List Float) (blocked' : List ℕ) : Type 0 where
   pub ax : axIn (length blocked) num' ≡ axIn (length blocked) num
   pub marks : blocked' ≡ pick (roomFor num blocked l count) (set blocked (worstIn num blocked) 1) blocked
   pub basis : basisIn (length blocked) l r num'
-      ≡ pick (roomFor num blocked l count) (blocking plusZero a l (worstIn num blocked) (basisIn (length blocked) l count num)) (basisIn (length blocked) l count num)
+      ≡ pick (roomFor num blocked l count) (blocking plusZero a l (worstIn num blocked) (basisIn (length blocked) l count num))
+      (basisIn (length blocked) l count num)

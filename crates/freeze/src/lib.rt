@@ -9,11 +9,12 @@ ghost use mathlib.Core.Path.{_≡_};
 ghost use Prim.Native.Nat.{ℕ, _≤_, _<_, _*_, _+_};
 ghost use lib.ListN.{length};
 ghost use Rattle.seq.specs.Sums.{plusZero};
-ghost use Rattle.linear.specs.Held.{vectorsIn, Inserted};
+ghost use Rattle.linear.specs.Held.{Inserted};
 ghost use Rattle.entries.specs.Rows.{rowOf};
 ghost use Rattle.freeze.specs.Freeze.{axis, frozenAt, freezeTo};
-ghost use Rattle.entries.specs.Entries.{entryOf, Chosen};
-ghost use Rattle.freeze.specs.Held.{axIn, held, Roomy, Blocked};
+ghost use Rattle.entries.specs.Entries.{entryOf};
+ghost use Rattle.entries.specs.ChosenColumns.{Chosen};
+ghost use Rattle.freeze.specs.Held.{held, Roomy, Blocked};
 
 // The vector with 1.0 at p.
 fn axis_into(v: &mut [f64], p: usize)
@@ -35,8 +36,12 @@ pub fn block_row(
     scale: &[f64],
     v: &mut [f64],
 ) -> usize
-    requires { ⌜ Chosen (now u) n (now cols) (now scale) n × (length (now v) ≡ length (now cols)) × (length (now cols) * length (now cols) ≤ length (now basis)) × (count ≤ length (now cols)) ⌝ }
-    ensures { λ r. ⌜ Inserted plusZero count (length (now (cols .entry))) (now (basis .entry)) (rowOf (entryOf (now (u .entry)) n (now (cols .entry)) (now (scale .entry))) (length (now (cols .entry))) i) r (now (basis .exit)) ⌝ }
+    requires { ⌜ Chosen (now u) n (now cols) (now scale) n × (length (now v) ≡ length (now cols)) ×
+        (length (now cols) * length (now cols) ≤ length (now basis))
+        × (count ≤ length (now cols)) ⌝ }
+    ensures { λ r. ⌜ Inserted plusZero count (length (now (cols .entry))) (now (basis .entry))
+        (rowOf (entryOf (now (u .entry)) n (now (cols .entry)) (now (scale .entry))) (length (now (cols .entry))) i) r
+        (now (basis .exit)) ⌝ }
 {
     row_into(&mut v[..], u, n, cols, scale, i);
     insert(basis, count, cols.len(), v)
@@ -53,8 +58,12 @@ fn block_worst(
     scale: &[f64],
     v: &mut [f64],
 ) -> usize
-    requires { ⌜ Chosen (now u) n (now cols) (now scale) (length (now blocked)) × (length (now v) ≡ length (now cols)) × (length (now blocked) + length (now blocked) + length (now blocked) + length (now cols) * length (now cols) ≤ length (now num)) × (count ≤ length (now cols)) ⌝ }
-    ensures { λ r. ⌜ Blocked (entryOf (now (u .entry)) n (now (cols .entry)) (now (scale .entry))) (length (now (cols .entry))) (now (num .entry)) (now (blocked .entry)) count r (now (num .exit)) (now (blocked .exit)) ⌝ }
+    requires { ⌜ Chosen (now u) n (now cols) (now scale) (length (now blocked)) × (length (now v) ≡ length (now cols)) × (length
+        (now blocked) + length (now blocked) + length (now blocked) + length (now cols) * length (now cols) ≤ length
+        (now num)) × (count ≤ length (now cols)) ⌝ }
+    ensures { λ r. ⌜ Blocked (entryOf (now (u .entry)) n (now (cols .entry)) (now (scale .entry)))
+        (length (now (cols .entry))) (now (num .entry)) (now (blocked .entry)) count r (now (num .exit))
+        (now (blocked .exit)) ⌝ }
 {
     let rows = blocked.len();
     let i = worst(&num[..rows], &blocked[..]);
@@ -83,8 +92,12 @@ fn freeze_at(
     scale: &[f64],
     v: &mut [f64],
 ) -> usize
-    requires { ⌜ Chosen (now u) n (now cols) (now scale) (length (now blocked)) × Roomy (length (now cols)) (now num) (now blocked) (now x) (now free) count × (length (now v) ≡ length (now cols)) × (p < length (now cols)) ⌝ }
-    ensures { λ r. ⌜ ((frozen rng : ℕ) → held (now (num .exit)) (now (blocked .exit)) (now (x .exit)) (now (free .exit)) r (frozen + 1) rng ≡ frozenAt plusZero (entryOf (now (u .entry)) n (now (cols .entry)) (now (scale .entry))) (length (now (cols .entry))) (length (now (blocked .entry))) (held (now (num .entry)) (now (blocked .entry)) (now (x .entry)) (now (free .entry)) count frozen rng) p) ⌝ }
+    requires { ⌜ Chosen (now u) n (now cols) (now scale) (length (now blocked)) × Roomy (length (now cols)) (now num)
+        (now blocked) (now x) (now free) count × (length (now v) ≡ length (now cols)) × (p < length (now cols)) ⌝ }
+    ensures { λ r. ⌜ ((frozen rng : ℕ) → held (now (num .exit)) (now (blocked .exit)) (now (x .exit)) (now (free .exit)) r
+        (frozen + 1) rng ≡ frozenAt plusZero (entryOf (now (u .entry)) n (now (cols .entry)) (now (scale .entry)))
+        (length (now (cols .entry))) (length (now (blocked .entry)))
+        (held (now (num .entry)) (now (blocked .entry)) (now (x .entry)) (now (free .entry)) count frozen rng) p) ⌝ }
 {
     x[p] = signum(x[p]);
     free[p] = 0;
@@ -113,8 +126,13 @@ pub fn freeze(
     scale: &[f64],
     v: &mut [f64],
 ) -> Frozen
-    requires { ⌜ Chosen (now u) n (now cols) (now scale) (length (now blocked)) × Roomy (length (now cols)) (now num) (now blocked) (now x) (now free) (from .count) × (length (now v) ≡ length (now cols)) × (from .frozen ≤ 256) ⌝ }
-    ensures { λ r. ⌜ ((rng : ℕ) → held (now (num .exit)) (now (blocked .exit)) (now (x .exit)) (now (free .exit)) (r .count) (r .frozen) rng ≡ freezeTo plusZero (entryOf (now (u .entry)) n (now (cols .entry)) (now (scale .entry))) (length (now (cols .entry))) (length (now (blocked .entry))) (held (now (num .entry)) (now (blocked .entry)) (now (x .entry)) (now (free .entry)) (from .count) (from .frozen) rng) (length (now (cols .entry)))) ⌝ }
+    requires { ⌜ Chosen (now u) n (now cols) (now scale) (length (now blocked)) × Roomy (length (now cols)) (now num)
+        (now blocked) (now x) (now free) (from .count) × (length (now v) ≡ length (now cols)) × (from .frozen ≤ 256) ⌝ }
+    ensures { λ r. ⌜ ((rng : ℕ) → held (now (num .exit)) (now (blocked .exit)) (now (x .exit)) (now (free .exit))
+        (r .count) (r .frozen) rng ≡ freezeTo plusZero
+        (entryOf (now (u .entry)) n (now (cols .entry)) (now (scale .entry))) (length (now (cols .entry)))
+        (length (now (blocked .entry))) (held (now (num .entry)) (now (blocked .entry)) (now (x .entry))
+        (now (free .entry)) (from .count) (from .frozen) rng) (length (now (cols .entry)))) ⌝ }
 {
     let mut count = from.count;
     let mut frozen = from.frozen;

@@ -7,8 +7,7 @@ use native.Mathlib.Omega.{arith}
 use lib.ListN.{length, take}
 use lib.Seq.{length-take-le}
 use lib.Ieee.{Float}
-use Rattle.seq.specs.Keep.{Pushed}
-use Rattle.seq.specs.Indices.{Below}
+use Rattle.seq.specs.Indices.{Pushed, Below}
 use Rattle.weights.specs.Weights.{isOn}
 use Rattle.doubling.specs.Doubling.{remaining}
 use Rattle.doubling.proofs.Turns.{those-short}

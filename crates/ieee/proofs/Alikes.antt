@@ -7,9 +7,9 @@ use mathlib.Core.Bool.{Bool, true, false, not}
 use lib.IntN.{ℤ, pos, negsuc}
 use lib.Dec.{T, eqb→eq}
 use lib.Pow.{pow-pos}
-use lib.Ieee.{Float, nan, inf, fin, Format, neg, add, sub, mul, div, lt, le, eq, ne, fits, isNan, binary64, ofBits}
+use lib.Ieee.{Float, nan, inf, fin, Format, neg, add, sub, mul, div, lt, le, eq, ne, fits, isNan, binary64}
 use Rattle.seq.specs.Choice.{pick}
-use Rattle.seq.specs.Sums.{sumFrom, sumTo, plusZero, minusZero}
+use Rattle.seq.specs.Sums.{sumFrom, sumTo, plusZero}
 use Rattle.ieee.specs.Flat.{flat, Alike, isZero}
 use Rattle.ieee.specs.Magnitude.{absOf, clampOf, largerOf, smallerOf, aboveOf, largestTo}
 use Rattle.ieee.specs.Pass.{sumUp}
@@ -35,8 +35,12 @@ alike-zeros s t = record { flatly = refl }
 pub one : (g : Float → Float) → ((x : Float) → flat (g x) ≡ flat (g (flat x))) → {x y : Float} → Alike x y → Alike (g x) (g y)
 one g h {x} {y} p = record { flatly = h x ∙ ap (λ (z : Float). flat (g z)) (p .flatly) ∙ sym (h y) }
 
-both : (g : Float → Float → Float) → ((x y : Float) → flat (g x y) ≡ flat (g (flat x) (flat y))) → {x x' y y' : Float} → Alike x x' → Alike y y' → Alike (g x y) (g x' y')
-both g h {x} {x'} {y} {y'} p q = record { flatly = h x y ∙ ap (λ (z : Float). flat (g z (flat y))) (p .flatly) ∙ ap (λ (z : Float). flat (g (flat x') z)) (q .flatly) ∙ sym (h x' y') }
+both : (g : Float → Float → Float) → ((x y : Float) → flat (g x y) ≡ flat (g (flat x) (flat y))) → {x x' y y' : Float} → Alike x
+    x' → Alike y y' → Alike (g x y) (g x' y')
+both g h {x} {x'} {y} {y'} p q = record {
+  flatly = h x y ∙ ap (λ (z : Float). flat (g z (flat y))) (p .flatly) ∙ ap
+      (λ (z : Float). flat (g (flat x') z)) (q .flatly) ∙ sym (h x' y');
+}
 
 test : (g : Float → Float → Bool) → ((x y : Float) → g x y ≡ g (flat x) (flat y)) → {x x' y y' : Float} → Alike x x' → Alike y y' → g x y ≡ g x' y'
 test g h {x} {x'} {y} {y'} p q = h x y ∙ ap (λ (z : Float). g z (flat y)) (p .flatly) ∙ ap (λ (z : Float). g (flat x') z) (q .flatly) ∙ sym (h x' y')
@@ -68,7 +72,11 @@ zero-alike {x} {y} p = zero-flat x ∙ ap isZero (p .flatly) ∙ sym (zero-flat 
 -- a divisor that is not zero
 pub div-alike : (f : Format) {x x' y y' : Float} → Alike x x' → Alike y y' → T (not (isZero y)) → Alike (div f x y) (div f x' y')
 div-alike f {x} {x'} {y} {y'} p q h =
-    record { flatly = div-flat f x y h ∙ ap (λ (z : Float). flat (div f z (flat y))) (p .flatly) ∙ ap (λ (z : Float). flat (div f (flat x') z)) (q .flatly) ∙ sym (div-flat f x' y' (subst (λ (z : Bool). T (not z)) (zero-alike q) h)) }
+    record {
+      flatly = div-flat f x y h ∙ ap (λ (z : Float). flat (div f z (flat y))) (p .flatly) ∙ ap
+          (λ (z : Float). flat (div f (flat x') z)) (q .flatly) ∙ sym
+          (div-flat f x' y' (subst (λ (z : Bool). T (not z)) (zero-alike q) h));
+    }
 
 pub lt-alike : {x x' y y' : Float} → Alike x x' → Alike y y' → lt x y ≡ lt x' y'
 lt-alike p q = test lt lt-flat p q
@@ -110,18 +118,9 @@ pick-alike {t} {t'} {x} {x'} {y} {y'} e p q = subst (λ (u : Bool). Alike (pick 
     go true = p
     go false = q
 
--- a function such as the root, given that it maps the zeros alike
-pub root-alike : (g : Float → Float) → ((s : Bool) → Alike (g (fin s 0 (pos 0))) (g (fin false 0 (pos 0)))) → (f : Format) {x y : Float} → T (fits f x) → T (fits f y) → Alike x y → Alike (g x) (g y)
-root-alike g h f {x} {y} p q a = alike-trans (same x p) (alike-trans (alike-of-eq (ap g (a .flatly))) (alike-sym (same y q)))
-  where
-    same : (x : Float) → T (fits f x) → Alike (g x) (g (flat x))
-    same nan p = alike-refl (g nan)
-    same (inf s) p = alike-refl (g (inf s))
-    same (fin s zero e) p = subst (λ (d : ℤ). Alike (g (fin s zero d)) (g (fin false 0 (pos 0)))) (sym (fits-zero f s e p)) (h s)
-    same (fin s (suc m) e) p = alike-refl (g (fin s (suc m) e))
-
 -- ---- running sums
-pub sum-alike : (f : Format) (v w : ℕ → Float) (k : ℕ) {y z : Float} → Alike y z → ((j : ℕ) → j < k → Alike (v j) (w j)) → Alike (sumFrom f y v k) (sumFrom f z w k)
+pub sum-alike : (f : Format) (v w : ℕ → Float) (k : ℕ) {y z : Float} → Alike y z → ((j : ℕ) → j < k → Alike (v j) (w j)) → Alike
+    (sumFrom f y v k) (sumFrom f z w k)
 unfolding sumFrom
 sum-alike f v w zero p h = p
 sum-alike f v w (suc k) p h = add-alike f (sum-alike f v w k p (λ j l. h j (le-trans l (le-suc k)))) (h k (lt-suc-self k))
@@ -130,16 +129,9 @@ sum-alike f v w (suc k) p h = add-alike f (sum-alike f v w k p (λ j l. h j (le-
 pub sum-start : (f : Format) (v : ℕ → Float) (k : ℕ) (s : Bool) → Alike (sumFrom f (fin s 0 (pos 0)) v k) (sumUp f v k)
 sum-start f v k s = sum-alike f v v k (alike-zeros s false) (λ j l. alike-refl (v j))
 
--- the sums of doubles that the definitions name, from +0.0 and from -0.0
+-- the sums of doubles that the definitions name, from +0.0
 pub sum-up-is : (v : ℕ → Float) (k : ℕ) → sumTo plusZero v k ≡ sumUp binary64 v k
 sum-up-is v k = ap (λ (z : Float). sumFrom binary64 z v k) nought-is
-
-minus-is : minusZero ≡ fin true 0 (pos 0)
-unfolding ofBits
-minus-is = refl
-
-pub sum-from-minus : (v : ℕ → Float) (k : ℕ) → Alike (sumTo minusZero v k) (sumTo plusZero v k)
-sum-from-minus v k = sum-alike binary64 v v k (alike-trans (alike-of-eq minus-is) (alike-trans (alike-zeros true false) (alike-of-eq (sym nought-is)))) (λ j l. alike-refl (v j))
 
 -- ---- the functions of this crate
 pub larger-alike : {x x' y y' : Float} → Alike x x' → Alike y y' → Alike (largerOf x y) (largerOf x' y')
@@ -161,7 +153,8 @@ above-picks (inf s) b = refl
 above-picks (fin s m e) b = refl
 
 pub above-alike : {a a' b b' : Float} → Alike a a' → Alike b b' → aboveOf a b ≡ aboveOf a' b'
-above-alike {a} {a'} {b} {b'} p q = above-picks a b ∙ (λ i. pick (nan-alike p i) (not (nan-alike q i)) (lt-alike (abs-alike q) (abs-alike p) i)) ∙ sym (above-picks a' b')
+above-alike {a} {a'} {b} {b'} p q = above-picks a b ∙ (λ i. pick (nan-alike p i) (not (nan-alike q i)) (lt-alike (abs-alike q) (abs-alike p) i))
+    ∙ sym (above-picks a' b')
 
 pub largest-alike : (v w : ℕ → Float) (k : ℕ) → ((j : ℕ) → j < k → Alike (v j) (w j)) → Alike (largestTo v k) (largestTo w k)
 unfolding largestTo

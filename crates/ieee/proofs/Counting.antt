@@ -38,5 +38,6 @@ count-lt p q (suc k) i h l n t = go (eq-or-lt-of-le (let g : i ≤ k = omega ari
     before false false t l = l
 
     go : (i ≡ k) ⊎ (i < k) → (i < k → count p k < count q k) → pick (p k) (suc (count p k)) (count p k) < pick (q k) (suc (count q k)) (count q k)
-    go (inl e) ih = here (p k) (q k) (subst (λ (j : ℕ). T (not (p j))) e n) (subst (λ (j : ℕ). T (q j)) e t) (count-le p q k (λ j m. h j (le-trans m (le-suc k))))
+    go (inl e) ih = here (p k) (q k) (subst (λ (j : ℕ). T (not (p j))) e n) (subst (λ (j : ℕ). T (q j)) e t)
+        (count-le p q k (λ j m. h j (le-trans m (le-suc k))))
     go (inr g) ih = before (p k) (q k) (h k (lt-suc-self k)) (ih g)

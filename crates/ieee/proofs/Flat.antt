@@ -26,7 +26,8 @@ least o m g h e = omega arith
 pub round-zero : (f : Format) (s : Bool) (c : ℕ) → 0 < c → round f s 0 c ≡ fin s 0 (pos 0)
 round-zero f s c C =
     let r = rounded f s 0 c in
-    unique f (round f s 0 c) (fin s 0 (pos 0)) (round-fits f s 0 c) (nought-finite f s .held) (r .number) tt (r .signed) (least (overflow f) (mag f (round f s 0 c)) _ (grid-zero f c C) (r .size-is) ∙ sym (mag-nought f s))
+    unique f (round f s 0 c) (fin s 0 (pos 0)) (round-fits f s 0 c) (nought-finite f s .held) (r .number) tt (r .signed)
+    (least (overflow f) (mag f (round f s 0 c)) _ (grid-zero f c C) (r .size-is) ∙ sym (mag-nought f s))
 
 flat-zero : (f : Format) (s : Bool) (a c : ℕ) → 0 < c → a ≡ 0 → flat (round f s a c) ≡ nought
 flat-zero f s a c C e = ap (λ (z : ℕ). flat (round f s z c)) e ∙ ap flat (round-zero f s c C)
@@ -46,9 +47,11 @@ unfolding sum
 zero-left f s t a b c h k = ap (λ (z : ℕ). sum f s z t b c) h ∙ go s t ∙ ap (λ (z : ℕ). round f t z c) (zero-add b)
   where
     other : (s t : Bool) → cond (ltb 0 b) (round f t (b - 0) c) (round f (s && ltb b 0) (0 - b) c) ≡ round f t (0 + b) c
-    other s t = ap (λ (u : Bool). cond u (round f t (b - 0) c) (round f (s && ltb b 0) (0 - b) c)) (ltb-yes 0 b k) ∙ ap (λ (z : ℕ). round f t z c) (sub-zero b ∙ sym (zero-add b))
+    other s t = ap (λ (u : Bool). cond u (round f t (b - 0) c) (round f (s && ltb b 0) (0 - b) c)) (ltb-yes 0 b k) ∙ ap
+        (λ (z : ℕ). round f t z c) (sub-zero b ∙ sym (zero-add b))
 
-    go : (s t : Bool) → cond (Bool·beq s t) (round f s (0 + b) c) (cond (ltb 0 b) (round f t (b - 0) c) (round f (s && ltb b 0) (0 - b) c)) ≡ round f t (0 + b) c
+    go : (s t : Bool) → cond (Bool·beq s t) (round f s (0 + b) c)
+        (cond (ltb 0 b) (round f t (b - 0) c) (round f (s && ltb b 0) (0 - b) c)) ≡ round f t (0 + b) c
     go true true = refl
     go true false = other true false
     go false true = other false true
@@ -82,7 +85,8 @@ sum-commutes f s a t b c = go s t
         both false true = refl
         both false false = refl
 
-    unequal : (s t : Bool) → cond (ltb a b) (round f t (b - a) c) (round f (s && ltb b a) (a - b) c) ≡ cond (ltb b a) (round f s (a - b) c) (round f (t && ltb a b) (b - a) c)
+    unequal : (s t : Bool) → cond (ltb a b) (round f t (b - a) c) (round f (s && ltb b a) (a - b) c) ≡ cond (ltb b a)
+        (round f s (a - b) c) (round f (t && ltb a b) (b - a) c)
     unequal s t = other s t (ltb a b) (ltb b a) (ltb→lt a b) (nltb→le a b) (ltb→lt b a) (nltb→le b a)
 
     go : (s t : Bool)
@@ -109,7 +113,8 @@ add-commutes f (inf s) (inf t) = inf-comm s t
 add-commutes f (inf s) (fin t n d) = refl
 add-commutes f (fin s m e) nan = refl
 add-commutes f (fin s m e) (inf t) = refl
-add-commutes f (fin s m e) (fin t n d) = sum-commutes f s (m * up e * down d) t (n * up d * down e) (down e * down d) ∙ ap (λ (z : ℕ). sum f t (n * up d * down e) s (m * up e * down d) z) (mul-comm (down e) (down d))
+add-commutes f (fin s m e) (fin t n d) = sum-commutes f s (m * up e * down d) t (n * up d * down e) (down e * down d) ∙ ap
+    (λ (z : ℕ). sum f t (n * up d * down e) s (m * up e * down d) z) (mul-comm (down e) (down d))
 
 -- ---- addition respects it
 pub zero-times : (a b : ℕ) → 0 * a * b ≡ 0
@@ -123,13 +128,15 @@ unfolding add
 left-flat f s e nan = refl
 left-flat f s e (inf t) = refl
 left-flat f s e (fin t zero d) =
-    zero-zero f s t (0 * up e * down d) (0 * up d * down e) (down e * down d) (mul-pos (down-pos e) (down-pos d)) (zero-times (up e) (down d)) (zero-times (up d) (down e))
+    zero-zero f s t (0 * up e * down d) (0 * up d * down e) (down e * down d) (mul-pos (down-pos e) (down-pos d))
+    (zero-times (up e) (down d)) (zero-times (up d) (down e))
     ∙ sym (zero-zero f false false (0 * 1 * 1) (0 * 1 * 1) (1 * 1) (pow-pos 0) (zero-times 1 1) (zero-times 1 1))
 left-flat f s e (fin t (suc n) d) =
     let N : 0 < suc n * up d = mul-pos (zero-lt-suc n) (up-pos d) in
     ap flat
     (zero-left f s t (0 * up e * down d) (suc n * up d * down e) (down e * down d) (zero-times (up e) (down d)) (mul-pos N (down-pos e))
-    ∙ round-same f t (suc n * up d * down e) (down e * down d) (suc n * up d * 1) (1 * down d) (mul-pos (down-pos e) (down-pos d)) (mul-pos (pow-pos 0) (down-pos d))
+    ∙ round-same f t (suc n * up d * down e) (down e * down d) (suc n * up d * 1) (1 * down d) (mul-pos (down-pos e) (down-pos d))
+    (mul-pos (pow-pos 0) (down-pos d))
     (crossed (suc n * up d) (down d) (down e))
     ∙ sym (zero-left f false t (0 * 1 * down d) (suc n * up d * 1) (1 * down d) (zero-times 1 (down d)) (mul-pos N (pow-pos 0))))
 
@@ -142,7 +149,8 @@ add-flat f (inf s) (fin t (suc n) d) = unfold add in refl
 add-flat f (fin s zero e) y = left-flat f s e y
 add-flat f (fin s (suc m) e) nan = unfold add in refl
 add-flat f (fin s (suc m) e) (inf t) = unfold add in refl
-add-flat f (fin s (suc m) e) (fin t zero d) = ap flat (add-commutes f (fin s (suc m) e) (fin t zero d)) ∙ left-flat f t d (fin s (suc m) e) ∙ ap flat (add-commutes f nought (fin s (suc m) e))
+add-flat f (fin s (suc m) e) (fin t zero d) = ap flat (add-commutes f (fin s (suc m) e) (fin t zero d)) ∙ left-flat f t d
+    (fin s (suc m) e) ∙ ap flat (add-commutes f nought (fin s (suc m) e))
 add-flat f (fin s (suc m) e) (fin t (suc n) d) = refl
 
 -- ---- the other operations
@@ -168,14 +176,20 @@ flat-flat (fin s (suc m) e) = refl
 pub sub-flat : (f : Format) (x y : Float) → flat (sub f x y) ≡ flat (sub f (flat x) (flat y))
 unfolding sub
 sub-flat f x y =
-    add-flat f x (neg y) ∙ ap (λ (z : Float). flat (add f (flat x) z)) (neg-flat y) ∙ ap (λ (z : Float). flat (add f z (flat (neg (flat y))))) (sym (flat-flat x)) ∙ sym (add-flat f (flat x) (neg (flat y)))
+    add-flat f x (neg y) ∙ ap (λ (z : Float). flat (add f (flat x) z)) (neg-flat y) ∙ ap
+    (λ (z : Float). flat (add f z (flat (neg (flat y))))) (sym (flat-flat x)) ∙ sym (add-flat f (flat x) (neg (flat y)))
 
 mul-left : (f : Format) (s : Bool) (e : ℤ) (y : Float) → flat (mul f (fin s zero e) y) ≡ flat (mul f nought (flat y))
 unfolding mul
 mul-left f s e nan = refl
 mul-left f s e (inf t) = refl
-mul-left f s e (fin t zero d) = flat-zero f (unlike s t) (0 * up e * (0 * up d)) (down e * down d) (mul-pos (down-pos e) (down-pos d)) (zero-times (up e) (0 * up d)) ∙ sym (flat-zero f (unlike false false) (0 * 1 * (0 * 1)) (1 * 1) (pow-pos 0) (zero-times 1 (0 * 1)))
-mul-left f s e (fin t (suc n) d) = flat-zero f (unlike s t) (0 * up e * (suc n * up d)) (down e * down d) (mul-pos (down-pos e) (down-pos d)) (zero-times (up e) (suc n * up d)) ∙ sym (flat-zero f (unlike false t) (0 * 1 * (suc n * up d)) (1 * down d) (mul-pos (pow-pos 0) (down-pos d)) (zero-times 1 (suc n * up d)))
+mul-left f s e (fin t zero d) = flat-zero f (unlike s t) (0 * up e * (0 * up d)) (down e * down d)
+    (mul-pos (down-pos e) (down-pos d)) (zero-times (up e) (0 * up d)) ∙ sym
+    (flat-zero f (unlike false false) (0 * 1 * (0 * 1)) (1 * 1) (pow-pos 0) (zero-times 1 (0 * 1)))
+mul-left f s e (fin t (suc n) d) = flat-zero f (unlike s t) (0 * up e * (suc n * up d)) (down e * down d)
+    (mul-pos (down-pos e) (down-pos d)) (zero-times (up e) (suc n * up d)) ∙ sym
+    (flat-zero f (unlike false t) (0 * 1 * (suc n * up d)) (1 * down d) (mul-pos (pow-pos 0) (down-pos d))
+    (zero-times 1 (suc n * up d)))
 
 pub mul-flat : (f : Format) (x y : Float) → flat (mul f x y) ≡ flat (mul f (flat x) (flat y))
 mul-flat f nan y = unfold mul in refl
@@ -186,14 +200,16 @@ mul-flat f (inf s) (fin t (suc n) d) = refl
 mul-flat f (fin s zero e) y = mul-left f s e y
 mul-flat f (fin s (suc m) e) nan = unfold mul in refl
 mul-flat f (fin s (suc m) e) (inf t) = refl
-mul-flat f (fin s (suc m) e) (fin t zero d) = ap flat (mul-commutes f (fin s (suc m) e) (fin t zero d)) ∙ mul-left f t d (fin s (suc m) e) ∙ ap flat (mul-commutes f nought (fin s (suc m) e))
+mul-flat f (fin s (suc m) e) (fin t zero d) = ap flat (mul-commutes f (fin s (suc m) e) (fin t zero d)) ∙ mul-left f t d
+    (fin s (suc m) e) ∙ ap flat (mul-commutes f nought (fin s (suc m) e))
 mul-flat f (fin s (suc m) e) (fin t (suc n) d) = refl
 
 div-zero-left : (f : Format) (s : Bool) (e : ℤ) (t : Bool) (n : ℕ) (d : ℤ) → flat (div f (fin s zero e) (fin t (suc n) d)) ≡ nought
 unfolding div
 div-zero-left f s e t n d =
     ap (λ (z : Bool). flat (cond z (cond (eqb 0 0) nan (inf (unlike s t))) (round f (unlike s t) (0 * up e * down d) (suc n * up d * down e)))) (eqb·suc-zero n)
-    ∙ flat-zero f (unlike s t) (0 * up e * down d) (suc n * up d * down e) (mul-pos (mul-pos (zero-lt-suc n) (up-pos d)) (down-pos e)) (zero-times (up e) (down d))
+    ∙ flat-zero f (unlike s t) (0 * up e * down d) (suc n * up d * down e)
+    (mul-pos (mul-pos (zero-lt-suc n) (up-pos d)) (down-pos e)) (zero-times (up e) (down d))
 
 -- a divisor that is not zero
 pub div-flat : (f : Format) (x y : Float) → T (not (isZero y)) → flat (div f x y) ≡ flat (div f (flat x) (flat y))
@@ -243,10 +259,14 @@ lt-flat (inf s) (fin t (suc n) d) = refl
 lt-flat (fin s zero e) nan = refl
 lt-flat (fin s zero e) (inf t) = refl
 lt-flat (fin s zero e) (fin t zero d) = below-none s t (0 * up e * down d) (0 * up d * down e) (zero-times (up e) (down d)) (zero-times (up d) (down e))
-lt-flat (fin s zero e) (fin t (suc n) d) = below-left s t (0 * up e * down d) (suc n * up d * down e) (zero-times (up e) (down d)) (some n (up d) (down e) (up-pos d) (down-pos e)) ∙ sym (below-left false t (0 * 1 * down d) (suc n * up d * 1) (zero-times 1 (down d)) (some n (up d) 1 (up-pos d) (pow-pos 0)))
+lt-flat (fin s zero e) (fin t (suc n) d) = below-left s t (0 * up e * down d) (suc n * up d * down e) (zero-times (up e) (down d))
+    (some n (up d) (down e) (up-pos d) (down-pos e)) ∙ sym
+    (below-left false t (0 * 1 * down d) (suc n * up d * 1) (zero-times 1 (down d)) (some n (up d) 1 (up-pos d) (pow-pos 0)))
 lt-flat (fin s (suc m) e) nan = refl
 lt-flat (fin s (suc m) e) (inf t) = refl
-lt-flat (fin s (suc m) e) (fin t zero d) = below-right s t (suc m * up e * down d) (0 * up d * down e) (some m (up e) (down d) (up-pos e) (down-pos d)) (zero-times (up d) (down e)) ∙ sym (below-right s false (suc m * up e * 1) (0 * 1 * down e) (some m (up e) 1 (up-pos e) (pow-pos 0)) (zero-times 1 (down e)))
+lt-flat (fin s (suc m) e) (fin t zero d) = below-right s t (suc m * up e * down d) (0 * up d * down e)
+    (some m (up e) (down d) (up-pos e) (down-pos d)) (zero-times (up d) (down e)) ∙ sym
+    (below-right s false (suc m * up e * 1) (0 * 1 * down e) (some m (up e) 1 (up-pos e) (pow-pos 0)) (zero-times 1 (down e)))
 lt-flat (fin s (suc m) e) (fin t (suc n) d) = refl
 
 pub differ : (a b : ℕ) (u : Bool) → (a ≡ b → ⊥) → eqb a b && u ≡ false

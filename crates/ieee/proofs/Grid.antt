@@ -2,7 +2,8 @@
 use mathlib.Core.Path.{_≡_, refl, sym, ap, _∙_, subst}
 use mathlib.Core.Logic.{inl, inr}
 use Prim.Native.Nat.{ℕ, suc, _+_, _-_, _*_, _/_, _%_, _^_, _≤_, _<_, min, zero-le, compare}
-use native.Mathlib.Nat.{le-trans, le-of-eq, lt-of-le-of-lt, eq-or-lt-of-le, mul-assoc, mul-right-comm, mul-le-mul-right, le-div-iff-mul-le, div-div-eq-div-mul, mul-pos, mul-div-cancel, eq-of-mul-eq-mul-right}
+use native.Mathlib.Nat.{le-trans, le-of-eq, lt-of-le-of-lt, eq-or-lt-of-le, mul-assoc, mul-right-comm, mul-le-mul-right, le-div-iff-mul-le}
+use native.Mathlib.Nat.{div-div-eq-div-mul, mul-pos, mul-div-cancel, eq-of-mul-eq-mul-right}
 use native.Mathlib.Omega.{arith}
 use mathlib.Core.Bool.{Bool, true, false, not, cond}
 use lib.Dec.{T, ltb, ltb→lt, nltb→le}
@@ -42,7 +43,8 @@ kept-ge p n den P K =
     let u = den * 2 ^ k in
     let w = n / den in
     let a : 2 ^ (p - 1) * 2 ^ k ≤ w = le-trans (le-of-eq (sym (pow-add 2 (p - 1) k))) (size-reaches w (p - 1 + k) (all-in-use (size w) p P K)) in
-    le-trans (subst (λ (x : ℕ). 2 ^ (p - 1) ≤ x) (div-div-eq-div-mul n den (2 ^ k)) (le-div-iff-mul-le (pow-pos k) .1 a)) (nearest-ge (n / u) (compare (n % u * 2) u))
+    le-trans (subst (λ (x : ℕ). 2 ^ (p - 1) ≤ x) (div-div-eq-div-mul n den (2 ^ k)) (le-div-iff-mul-le (pow-pos k) .1 a))
+    (nearest-ge (n / u) (compare (n % u * 2) u))
 
 fewer : (x y p : ℕ) → x ≤ y → x - p ≤ y - p
 fewer x y p h = omega arith
@@ -103,15 +105,21 @@ units-rounded : (f : Format) (s : Bool) (q k : ℕ) → Rounded f s (q * 2 ^ k) 
 unfolding units
 units-rounded f s q k = go (ltb (q * 2 ^ k) (overflow f)) (ltb→lt (q * 2 ^ k) (overflow f)) (nltb→le (q * 2 ^ k) (overflow f))
   where
-    go : (b : Bool) → (T b → q * 2 ^ k < overflow f) → (T (not b) → overflow f ≤ q * 2 ^ k) → Rounded f s (q * 2 ^ k) (cond b (odd (suc (prec f)) s q k (low f)) (inf s))
+    go : (b : Bool) → (T b → q * 2 ^ k < overflow f) → (T (not b) → overflow f ≤ q * 2 ^ k) → Rounded f s (q * 2 ^ k)
+        (cond b (odd (suc (prec f)) s q k (low f)) (inf s))
     go true h g =
         let v = odd-sign (suc (prec f)) s q k (low f) in
         let x = odd (suc (prec f)) s q k (low f) in
-        record { number = num-of-value x s (q * 2 ^ k) (2 ^ low f) v; signed = sign-of-value x s (q * 2 ^ k) (2 ^ low f) v; size-is = mag-of-value f x s (q * 2 ^ k) v ∙ least (q * 2 ^ k) (overflow f) (h tt) }
+        record {
+          number = num-of-value x s (q * 2 ^ k) (2 ^ low f) v;
+          signed = sign-of-value x s (q * 2 ^ k) (2 ^ low f) v;
+          size-is = mag-of-value f x s (q * 2 ^ k) v ∙ least (q * 2 ^ k) (overflow f) (h tt);
+        }
     go false h g = record { number = tt; signed = refl; size-is = most (q * 2 ^ k) (overflow f) (g tt) }
 
 pub rounded : (f : Format) (s : Bool) (a c : ℕ) → Rounded f s (grid f a c) (round f s a c)
-rounded f s a c = subst (λ (x : Float). Rounded f s (grid f a c) x) (sym (round-is f s a c)) (units-rounded f s (kept (prec f) (a * 2 ^ low f) c) (drop (prec f) (a * 2 ^ low f) c))
+rounded f s a c = subst (λ (x : Float). Rounded f s (grid f a c) x) (sym (round-is f s a c))
+    (units-rounded f s (kept (prec f) (a * 2 ^ low f) c) (drop (prec f) (a * 2 ^ low f) c))
 
 -- ---- q * 2 ^ j units are a value of the format
 under : (g o n : ℕ) → n < o → n ≡ min o g → g ≡ n
@@ -120,7 +128,12 @@ under g o n h e = omega arith
 exact-units : (f : Format) (x : Float) (a c n : ℕ) → 0 < c → a * 2 ^ low f ≡ n * c → HasValue x false a c → HasValue x false n (2 ^ low f)
 exact-units f nan a c n C e h = absurd h
 exact-units f (inf t) a c n C e h = absurd h
-exact-units f (fin t m d) a c n C e h = (h .0, eq-of-mul-eq-mul-right c C (m * up d * 2 ^ low f) (n * down d) (mul-right-comm (m * up d) (2 ^ low f) c ∙ ap (λ (z : ℕ). z * 2 ^ low f) (h .1) ∙ mul-right-comm a (down d) (2 ^ low f) ∙ ap (λ (z : ℕ). z * down d) e ∙ mul-right-comm n c (down d)))
+exact-units f (fin t m d) a c n C e h = (
+  h .0,
+  eq-of-mul-eq-mul-right c C (m * up d * 2 ^ low f) (n * down d)
+      (mul-right-comm (m * up d) (2 ^ low f) c ∙ ap (λ (z : ℕ). z * 2 ^ low f) (h .1) ∙ mul-right-comm a (down d) (2 ^ low f) ∙ ap
+      (λ (z : ℕ). z * down d) e ∙ mul-right-comm n c (down d)),
+)
 
 pub grid-exact : (f : Format) (a c q j : ℕ) → 0 < c → q < 2 ^ prec f → q * 2 ^ j < overflow f → a * 2 ^ low f ≡ q * 2 ^ j * c → grid f a c ≡ q * 2 ^ j
 grid-exact f a c q j C small fine e =

@@ -69,7 +69,8 @@ turned-zero false = refl
 
 turned-fin : (s : Bool) (m : ℕ) (e : ℤ) → T (fits binary64 (fin s (suc m) e)) → sub binary64 nought (fin s (suc m) e) ≡ fin (not s) (suc m) e
 unfolding sub neg
-turned-fin s m e h = add-commutes binary64 nought (fin (not s) (suc m) e) ∙ plus-zero binary64 (fin (not s) (suc m) e) false (neg-fits binary64 (fin s (suc m) e) h) tt
+turned-fin s m e h = add-commutes binary64 nought (fin (not s) (suc m) e) ∙ plus-zero binary64 (fin (not s) (suc m) e) false
+    (neg-fits binary64 (fin s (suc m) e) h) tt
 
 larger-sign : (s : Bool) (m : ℕ) (e : ℤ) → pick (lt (fin (not s) (suc m) e) (fin s (suc m) e)) (fin s (suc m) e) (fin (not s) (suc m) e) ≡ fin false (suc m) e
 unfolding lt
@@ -99,7 +100,9 @@ abs-turned x h t = rw nought-is (sym (ap (λ (b : Bool). pick b x (sub binary64 
 fields-sign : (s : Bool) (x t : ℕ) → T (not (isNan (ofFields binary64 s x t))) → sign (ofFields binary64 s x t) ≡ s
 unfolding ofFields isNan
 fields-sign s zero t h = sign-of-value (odd 53 s t 0 (low binary64)) s (t * 2 ^ 0) (2 ^ low binary64) (odd-sign 53 s t 0 (low binary64))
-fields-sign s (suc x) t h = go (eqb (suc x) 2047) (eqb t 0) (odd 53 s (2 ^ 52 + t) x (low binary64)) (sign-of-value (odd 53 s (2 ^ 52 + t) x (low binary64)) s ((2 ^ 52 + t) * 2 ^ x) (2 ^ low binary64) (odd-sign 53 s (2 ^ 52 + t) x (low binary64))) h
+fields-sign s (suc x) t h = go (eqb (suc x) 2047) (eqb t 0) (odd 53 s (2 ^ 52 + t) x (low binary64))
+    (sign-of-value (odd 53 s (2 ^ 52 + t) x (low binary64)) s ((2 ^ 52 + t) * 2 ^ x) (2 ^ low binary64)
+    (odd-sign 53 s (2 ^ 52 + t) x (low binary64))) h
   where
     go : (a b : Bool) (v : Float) → sign v ≡ s → T (not (isNan (cond a (cond b (inf s) nan) v))) → sign (cond a (cond b (inf s) nan) v) ≡ s
     go true true v e h = refl
@@ -111,7 +114,8 @@ unfolding ofBits
 bits-sign b h = fields-sign (leb (2 ^ 63) b) (b % 2 ^ 63 / 2 ^ 52) (b % 2 ^ 52) h
 
 pub sign-is : (x : Float) → T (fits binary64 x) → T (not (isNan x)) → sign x ≡ leb (2 ^ 63) (toBits binary64 x)
-sign-is x f h = ap sign (sym (ofBits-toBits binary64 x f)) ∙ bits-sign (toBits binary64 x) (subst (λ (z : Float). T (not (isNan z))) (sym (ofBits-toBits binary64 x f)) h)
+sign-is x f h = ap sign (sym (ofBits-toBits binary64 x f)) ∙ bits-sign (toBits binary64 x)
+    (subst (λ (z : Float). T (not (isNan z))) (sym (ofBits-toBits binary64 x f)) h)
 
 signum-is : (x : Float) → T (not (isNan x)) → signumOf x ≡ fin (sign x) 1 (pos 0)
 unfolding isNan
@@ -131,12 +135,16 @@ minus-one-sign = refl
 pub signum-plus : (x : Float) → T (fits binary64 x) → eq x x ≡ true → toBits binary64 x < 2 ^ 63 → ofBits binary64 0x3ff0_0000_0000_0000 ≡ signumOf x
 signum-plus x f h l =
     let n = no-nan-self x h in
-    unit-is ∙ ap (λ (s : Bool). fin s 1 (pos 0)) (sym (sign-is x f n ∙ is-false (leb (2 ^ 63) (toBits binary64 x)) (lt→nleb (2 ^ 63) (toBits binary64 x) l))) ∙ sym (signum-is x n)
+    unit-is ∙ ap (λ (s : Bool). fin s 1 (pos 0))
+    (sym (sign-is x f n ∙ is-false (leb (2 ^ 63) (toBits binary64 x)) (lt→nleb (2 ^ 63) (toBits binary64 x) l))) ∙ sym
+    (signum-is x n)
 
 pub signum-minus : (x : Float) → T (fits binary64 x) → eq x x ≡ true → 2 ^ 63 ≤ toBits binary64 x → neg (ofBits binary64 0x3ff0_0000_0000_0000) ≡ signumOf x
 signum-minus x f h l =
     let n = no-nan-self x h in
-    minus-one-sign ∙ ap (λ (s : Bool). fin s 1 (pos 0)) (sym (sign-is x f n ∙ is-true (leb (2 ^ 63) (toBits binary64 x)) (le→leb (2 ^ 63) (toBits binary64 x) l))) ∙ sym (signum-is x n)
+    minus-one-sign ∙ ap (λ (s : Bool). fin s 1 (pos 0))
+    (sym (sign-is x f n ∙ is-true (leb (2 ^ 63) (toBits binary64 x)) (le→leb (2 ^ 63) (toBits binary64 x) l))) ∙ sym
+    (signum-is x n)
 
 pub signum-nan : (x : Float) → eq x x ≡ false → x ≡ signumOf x
 signum-nan x h = rw (nan-self x h)

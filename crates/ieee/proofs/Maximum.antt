@@ -86,5 +86,6 @@ largest-ge f v (suc k) h j l n = go (eq-or-lt-of-le (let g : j ≤ k = omega ari
     grows (fin s m e) q = larger-is before (record { held = q; num = tt }) .first
 
     go : (j ≡ k) ⊎ (j < k) → (j < k → T (isNum (v j)) → T (le (v j) (largestTo v k))) → T (le (v j) (largerOf (largestTo v k) (v k)))
-    go (inl e) ih = subst (λ (i : ℕ). T (le (v i) (largerOf (largestTo v k) (v k)))) (sym e) (larger-is before (record { held = h k (lt-suc-self k); num = subst (λ (i : ℕ). T (isNum (v i))) e n }) .second)
+    go (inl e) ih = subst (λ (i : ℕ). T (le (v i) (largerOf (largestTo v k) (v k)))) (sym e)
+        (larger-is before (record { held = h k (lt-suc-self k); num = subst (λ (i : ℕ). T (isNum (v i))) e n }) .second)
     go (inr g) ih = le-transitive (record { held = h j l; num = n }) before (largest-number f v (suc k) h) (ih g n) (grows (v k) (h k (lt-suc-self k)))

@@ -18,7 +18,8 @@ pub record Normal (f : Format) (k : ℕ) (x : ℕ → Float) : Type 0 where
   pub ends : (j : ℕ) → j < k → Finite f (x j)
   pub small : (j : ℕ) → j < k → mag f (x j) ≤ 2 ^ low f
 
-pub normalised : (f : Format) (w : ℕ → Float) (k : ℕ) → ((j : ℕ) → j < k → Finite f (w j)) → Positive f (l1 f w k) → Normal f k (λ (j : ℕ). div f (w j) (l1 f w k))
+pub normalised : (f : Format) (w : ℕ → Float) (k : ℕ) → ((j : ℕ) → j < k → Finite f (w j)) → Positive f (l1 f w k) → Normal f k
+    (λ (j : ℕ). div f (w j) (l1 f w k))
 normalised f w k h p = record { ends = λ j l. div-finite (h j l) p (l1-ge f w k h j l); small = λ j l. div-at-most-one (h j l) p (l1-ge f w k h j l) }
 
 pub normal-le : {f : Format} {k : ℕ} {x : ℕ → Float} → Normal f k x → (j : ℕ) → j < k → T (le (absOf (x j)) unit)

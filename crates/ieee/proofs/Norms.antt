@@ -35,20 +35,27 @@ none-yet : (f : Format) (w : ℕ → Float) (k : ℕ) → ((j : ℕ) → j < k �
 unfolding sumFrom
 none-yet f w zero h z = refl
 none-yet f w (suc k) h z =
-    plus-nothing f (l1 f w k) (absOf (w k)) (sum-fits f (λ (j : ℕ). absOf (w j)) k) (abs-finite (h k (lt-suc-self k)) .held) (sum-never-minus f (λ (j : ℕ). absOf (w j)) k (λ j l. abs-finite (h j (le-trans l (le-suc k))) .held)) (abs-zero (w k) (z k (lt-suc-self k)))
+    plus-nothing f (l1 f w k) (absOf (w k)) (sum-fits f (λ (j : ℕ). absOf (w j)) k) (abs-finite (h k (lt-suc-self k)) .held)
+    (sum-never-minus f (λ (j : ℕ). absOf (w j)) k (λ j l. abs-finite (h j (le-trans l (le-suc k))) .held))
+    (abs-zero (w k) (z k (lt-suc-self k)))
     ∙ none-yet f w k (λ j l. h j (le-trans l (le-suc k))) (λ j l. z j (le-trans l (le-suc k)))
 
-pub lone-sum : (f : Format) (w : ℕ → Float) (k i : ℕ) → i < k → ((j : ℕ) → j < k → Finite f (w j)) → ((j : ℕ) → j < k → (j ≡ i → ⊥) → T (isZero (w j))) → l1 f w k ≡ absOf (w i)
+pub lone-sum : (f : Format) (w : ℕ → Float) (k i : ℕ) → i < k → ((j : ℕ) → j < k → Finite f (w j)) → ((j : ℕ) → j < k → (j ≡ i → ⊥) → T (isZero (w j)))
+    → l1 f w k ≡ absOf (w i)
 unfolding sumFrom
 lone-sum f w zero i l h z = let b : ⊥ = omega arith in absurd b
-lone-sum f w (suc k) i l h z = go (eq-or-lt-of-le (let g : i ≤ k = omega arith in g)) (λ g. lone-sum f w k i g (λ j m. h j (le-trans m (le-suc k))) (λ j m. z j (le-trans m (le-suc k))))
+lone-sum f w (suc k) i l h z = go (eq-or-lt-of-le (let g : i ≤ k = omega arith in g))
+    (λ g. lone-sum f w k i g (λ j m. h j (le-trans m (le-suc k))) (λ j m. z j (le-trans m (le-suc k))))
   where
     go : (i ≡ k) ⊎ (i < k) → (i < k → l1 f w k ≡ absOf (w i)) → add f (l1 f w k) (absOf (w k)) ≡ absOf (w i)
     go (inl e) ih =
-        ap (λ (y : Float). add f y (absOf (w k))) (none-yet f w k (λ j m. h j (le-trans m (le-suc k))) (λ j m. z j (le-trans m (le-suc k)) (λ q. let b : ⊥ = omega arith in b)))
+        ap (λ (y : Float). add f y (absOf (w k))) (none-yet f w k (λ j m. h j (le-trans m (le-suc k)))
+        (λ j m. z j (le-trans m (le-suc k)) (λ q. let b : ⊥ = omega arith in b)))
         ∙ add-commutes f nought (absOf (w k))
         ∙ plus-zero f (absOf (w k)) false (abs-finite (h k (lt-suc-self k)) .held) (abs-not-minus (w k))
         ∙ ap (λ (j : ℕ). absOf (w j)) (sym e)
     go (inr g) ih =
-        plus-nothing f (l1 f w k) (absOf (w k)) (sum-fits f (λ (j : ℕ). absOf (w j)) k) (abs-finite (h k (lt-suc-self k)) .held) (sum-never-minus f (λ (j : ℕ). absOf (w j)) k (λ j m. abs-finite (h j (le-trans m (le-suc k))) .held)) (abs-zero (w k) (z k (lt-suc-self k) (λ q. let b : ⊥ = omega arith in b)))
+        plus-nothing f (l1 f w k) (absOf (w k)) (sum-fits f (λ (j : ℕ). absOf (w j)) k) (abs-finite (h k (lt-suc-self k)) .held)
+        (sum-never-minus f (λ (j : ℕ). absOf (w j)) k (λ j m. abs-finite (h j (le-trans m (le-suc k))) .held))
+        (abs-zero (w k) (z k (lt-suc-self k) (λ q. let b : ⊥ = omega arith in b)))
         ∙ ih g

@@ -1,7 +1,8 @@
 -- The operations in units: a sum of two values that are not negative, twice a value, a quotient by a value above zero.
 use mathlib.Core.Path.{_≡_, refl, sym, ap, _∙_, subst}
 use Prim.Native.Nat.{ℕ, suc, _+_, _*_, _^_, _≤_, _<_, min}
-use native.Mathlib.Nat.{le-of-eq, le-antisymm, lt-of-le-of-lt, zero-mul, mul-one, add-mul, mul-comm, mul-assoc, mul-left-comm, mul-right-comm, mul-le-mul-right, mul-pos, pow-succ', eq-of-mul-eq-mul-right}
+use native.Mathlib.Nat.{le-of-eq, le-antisymm, lt-of-le-of-lt, zero-mul, mul-one, add-mul, mul-comm, mul-assoc, mul-left-comm}
+use native.Mathlib.Nat.{mul-right-comm, mul-le-mul-right, mul-pos, pow-succ', eq-of-mul-eq-mul-right}
 use native.Mathlib.Omega.{arith}
 use mathlib.Core.Bool.{Bool, true, false, cond, true≢false}
 use lib.IntN.{ℤ, pos}
@@ -51,7 +52,9 @@ pub grid-same : (f : Format) (a b c d : ℕ) → 0 < b → 0 < d → a * d ≡ c
 grid-same f a b c d B D e = le-antisymm (grid-le f a b c d B D (le-of-eq e)) (grid-le f c d a b D B (le-of-eq (sym e)))
 
 pub grid-zero : (f : Format) (c : ℕ) → 0 < c → grid f 0 c ≡ 0
-grid-zero f c C = grid-exact f 0 c 0 0 C (pow-pos (prec f)) (lt-of-le-of-lt (le-of-eq (zero-mul (2 ^ 0))) (pow-pos (low f + suc (emax f)))) (zero-mul (2 ^ low f) ∙ sym (ap (λ (z : ℕ). z * c) (zero-mul (2 ^ 0)) ∙ zero-mul c)) ∙ zero-mul (2 ^ 0)
+grid-zero f c C = grid-exact f 0 c 0 0 C (pow-pos (prec f))
+    (lt-of-le-of-lt (le-of-eq (zero-mul (2 ^ 0))) (pow-pos (low f + suc (emax f))))
+    (zero-mul (2 ^ low f) ∙ sym (ap (λ (z : ℕ). z * c) (zero-mul (2 ^ 0)) ∙ zero-mul c)) ∙ zero-mul (2 ^ 0)
 
 -- 1 has few enough digits
 pub one-few : (f : Format) → 1 < 2 ^ prec f
@@ -92,23 +95,27 @@ same-sign f true a b c = refl
 same-sign f false a b c = refl
 
 -- ---- a sum of two finite values of one sign
-pub opened : (f : Format) (s : Bool) (m : ℕ) (i : ℤ) (r : Bool) (n : ℕ) (d : ℤ) → add f (fin s m i) (fin r n d) ≡ sum f s (m * up i * down d) r (n * up d * down i) (down i * down d)
+pub opened : (f : Format) (s : Bool) (m : ℕ) (i : ℤ) (r : Bool) (n : ℕ) (d : ℤ) → add f (fin s m i) (fin r n d) ≡ sum f s
+    (m * up i * down d) r (n * up d * down i) (down i * down d)
 unfolding add
 opened f s m i r n d = refl
 
 pub add-units : {f : Format} {x y : Float} → Finite f x → Finite f y → sign x ≡ sign y → Rounded f (sign y) (rnd f (mag f x + mag f y)) (add f x y)
 add-units {f} {x} {y} p q e = go x y (p .held) (p .ends) (q .held) (q .ends) e
   where
-    go : (x y : Float) → T (fits f x) → T (finite x) → T (fits f y) → T (finite y) → sign x ≡ sign y → Rounded f (sign y) (rnd f (mag f x + mag f y)) (add f x y)
+    go : (x y : Float) → T (fits f x) → T (finite x) → T (fits f y) → T (finite y) → sign x ≡ sign y → Rounded f (sign y)
+        (rnd f (mag f x + mag f y)) (add f x y)
     go nan y p t q u e = absurd t
     go (inf s) y p t q u e = absurd t
     go (fin s m i) nan p t q u e = absurd u
     go (fin s m i) (inf r) p t q u e = absurd u
     go (fin s m i) (fin r n d) p t q u e =
         subst (λ (z : Float). Rounded f r (rnd f (mag f (fin s m i) + mag f (fin r n d))) z)
-        (sym (opened f s m i r n d ∙ ap (λ (z : Bool). sum f z (m * up i * down d) r (n * up d * down i) (down i * down d)) e ∙ same-sign f r (m * up i * down d) (n * up d * down i) (down i * down d)))
+        (sym (opened f s m i r n d ∙ ap (λ (z : Bool). sum f z (m * up i * down d) r (n * up d * down i) (down i * down d)) e ∙ same-sign
+        f r (m * up i * down d) (n * up d * down i) (down i * down d)))
         (round-units f r (m * up i * down d + n * up d * down i) (down i * down d) (mag f (fin s m i) + mag f (fin r n d)) (mul-pos (down-pos i) (down-pos d))
-        (both-units (m * up i) (n * up d) (down i) (down d) (mag f (fin s m i)) (mag f (fin r n d)) (2 ^ low f) (units f s m i p .cross) (units f r n d q .cross)))
+        (both-units (m * up i) (n * up d) (down i) (down d) (mag f (fin s m i)) (mag f (fin r n d)) (2 ^ low f)
+        (units f s m i p .cross) (units f r n d q .cross)))
 
 -- ---- twice a value
 abbrev pub twice : Float
@@ -123,7 +130,8 @@ unfolding mul
 double-opened f s m e = refl
 
 doubled-units : (a c n K : ℕ) → a * K ≡ n * c → a * 2 * K ≡ 2 * n * (c * 1)
-doubled-units a c n K e = mul-right-comm a 2 K ∙ ap (λ (z : ℕ). z * 2) e ∙ mul-comm (n * c) 2 ∙ sym (mul-assoc 2 n c) ∙ ap (λ (z : ℕ). 2 * n * z) (sym (mul-one c))
+doubled-units a c n K e = mul-right-comm a 2 K ∙ ap (λ (z : ℕ). z * 2) e ∙ mul-comm (n * c) 2 ∙ sym (mul-assoc 2 n c) ∙ ap
+    (λ (z : ℕ). 2 * n * z) (sym (mul-one c))
 
 pub double-units : {f : Format} {x : Float} → Finite f x → Rounded f (sign x) (rnd f (2 * mag f x)) (mul f x twice)
 double-units {f} {x} p = go x (p .held) (p .ends)
@@ -132,8 +140,10 @@ double-units {f} {x} p = go x (p .held) (p .ends)
     go nan p t = absurd t
     go (inf s) p t = absurd t
     go (fin s m e) p t =
-        subst (λ (z : Float). Rounded f s (rnd f (2 * mag f (fin s m e))) z) (sym (double-opened f s m e ∙ ap (λ (z : Bool). round f z (m * up e * 2) (down e * 1)) (unlike-false s)))
-        (round-units f s (m * up e * 2) (down e * 1) (2 * mag f (fin s m e)) (mul-pos (down-pos e) (pow-pos 0)) (doubled-units (m * up e) (down e) (mag f (fin s m e)) (2 ^ low f) (units f s m e p .cross)))
+        subst (λ (z : Float). Rounded f s (rnd f (2 * mag f (fin s m e))) z)
+        (sym (double-opened f s m e ∙ ap (λ (z : Bool). round f z (m * up e * 2) (down e * 1)) (unlike-false s)))
+        (round-units f s (m * up e * 2) (down e * 1) (2 * mag f (fin s m e)) (mul-pos (down-pos e) (pow-pos 0))
+        (doubled-units (m * up e) (down e) (mag f (fin s m e)) (2 ^ low f) (units f s m e p .cross)))
 
 -- exact, short of overflow
 pub double-exact : {f : Format} {x : Float} → Finite f x → 2 * mag f x < overflow f → rnd f (2 * mag f x) ≡ 2 * mag f x
@@ -144,7 +154,8 @@ double-exact {f} {x} p = go x (p .held) (p .ends)
     go (inf s) p t h = absurd t
     go (fin s m e) p t h =
         let u = units f s m e p in
-        let w : 2 * mag f (fin s m e) ≡ u .digits * 2 ^ suc (u .place) = ap (λ (z : ℕ). 2 * z) (u .form) ∙ mul-left-comm 2 (u .digits) (2 ^ u .place) ∙ ap (λ (z : ℕ). u .digits * z) (sym (pow-succ' 2 (u .place))) in
+        let w : 2 * mag f (fin s m e) ≡ u .digits * 2 ^ suc (u .place) = ap (λ (z : ℕ). 2 * z) (u .form) ∙ mul-left-comm 2
+        (u .digits) (2 ^ u .place) ∙ ap (λ (z : ℕ). u .digits * z) (sym (pow-succ' 2 (u .place))) in
         ap (rnd f) w ∙ rnd-exact f (u .digits) (suc (u .place)) (u .few-digits) (subst (λ (z : ℕ). z < overflow f) w h) ∙ sym w
 
 unlike-comm : (s t : Bool) → unlike s t ≡ unlike t s
@@ -169,11 +180,14 @@ mul-commutes f (fin s m e) (fin t n d) =
     ∙ ap (λ (z : ℕ). round f (unlike t s) (n * up d * (m * up e)) z) (mul-comm (down e) (down d))
 
 -- ---- a quotient by a value above zero
-div-opened : (f : Format) (s : Bool) (m : ℕ) (e : ℤ) (n : ℕ) (d : ℤ) → 0 < n → div f (fin s m e) (fin false n d) ≡ round f (unlike s false) (m * up e * down d) (n * up d * down e)
+div-opened : (f : Format) (s : Bool) (m : ℕ) (e : ℤ) (n : ℕ) (d : ℤ) → 0 < n → div f (fin s m e) (fin false n d) ≡ round f
+    (unlike s false) (m * up e * down d) (n * up d * down e)
 unfolding div
 div-opened f s m e n d h = go (eqb n 0) (λ t. let z : n ≡ 0 = eqb→eq n 0 t in let k : ⊥ = omega arith in k)
   where
-    go : (t : Bool) → (T t → ⊥) → cond t (cond (eqb m 0) nan (inf (unlike s false))) (round f (unlike s false) (m * up e * down d) (n * up d * down e)) ≡ round f (unlike s false) (m * up e * down d) (n * up d * down e)
+    go : (t : Bool) → (T t → ⊥) → cond t (cond (eqb m 0) nan (inf (unlike s false)))
+        (round f (unlike s false) (m * up e * down d) (n * up d * down e)) ≡ round f (unlike s false) (m * up e * down d)
+        (n * up d * down e)
     go true h = absurd (h tt)
     go false h = refl
 
@@ -197,7 +211,8 @@ m-pos f s n d p h = first-pos n (up d) (first-pos (n * up d) (2 ^ low f) (subst 
 pub div-units : {f : Format} {x y : Float} → Finite f x → Positive f y → Rounded f (sign x) (grid f (mag f x) (mag f y)) (div f x y)
 div-units {f} {x} {y} p q = go x y (p .held) (p .ends) (q .fin .held) (q .fin .ends) (q .plus) (q .some)
   where
-    go : (x y : Float) → T (fits f x) → T (finite x) → T (fits f y) → T (finite y) → sign y ≡ false → 0 < mag f y → Rounded f (sign x) (grid f (mag f x) (mag f y)) (div f x y)
+    go : (x y : Float) → T (fits f x) → T (finite x) → T (fits f y) → T (finite y) → sign y ≡ false → 0 < mag f y → Rounded f
+        (sign x) (grid f (mag f x) (mag f y)) (div f x y)
     go nan y p t q u e h = absurd t
     go (inf s) y p t q u e h = absurd t
     go (fin s m i) nan p t q u e h = absurd u
@@ -207,8 +222,10 @@ div-units {f} {x} {y} p q = go x y (p .held) (p .ends) (q .fin .held) (q .fin .e
         subst (λ (z : Float). Rounded f s (grid f (mag f (fin s m i)) (mag f (fin false n d))) z)
         (sym (div-opened f s m i n d (m-pos f false n d q h) ∙ ap (λ (z : Bool). round f z (m * up i * down d) (n * up d * down i)) (unlike-false s)))
         (subst (λ (z : ℕ). Rounded f s z (round f s (m * up i * down d) (n * up d * down i)))
-        (grid-same f (m * up i * down d) (n * up d * down i) (mag f (fin s m i)) (mag f (fin false n d)) (mul-pos (mul-pos (m-pos f false n d q h) (up-pos d)) (down-pos i)) h
-        (cross-units (m * up i) (n * up d) (down i) (down d) (mag f (fin s m i)) (mag f (fin false n d)) (2 ^ low f) (pow-pos (low f)) (units f s m i p .cross) (units f false n d q .cross)))
+        (grid-same f (m * up i * down d) (n * up d * down i) (mag f (fin s m i)) (mag f (fin false n d))
+        (mul-pos (mul-pos (m-pos f false n d q h) (up-pos d)) (down-pos i)) h
+        (cross-units (m * up i) (n * up d) (down i) (down d) (mag f (fin s m i)) (mag f (fin false n d)) (2 ^ low f)
+        (pow-pos (low f)) (units f s m i p .cross) (units f false n d q .cross)))
         (rounded f s (m * up i * down d) (n * up d * down i)))
 
 -- ---- a number of units below an infinity's is not cut

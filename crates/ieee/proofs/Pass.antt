@@ -1,4 +1,5 @@
--- A pass over at most 256 normalised entries, each kept, doubled once or twice, or zeroed: the sum of magnitudes after it is finite and, where a nonzero entry is kept, above zero. So what is divided by it is normalised again, signs are kept, and where an entry is zeroed strictly fewer are nonzero.
+-- A pass over at most 256 normalised entries, each kept, doubled once or twice, or zeroed: the sum of magnitudes after it is finite and, where a nonzero
+-- entry is kept, above zero. So what is divided by it is normalised again, signs are kept, and where an entry is zeroed strictly fewer are nonzero.
 use mathlib.Core.Path.{_≡_, sym, ap, _∙_, subst}
 use Prim.Native.Nat.{ℕ, zero, suc, _+_, _*_, _^_, _≤_, _<_, zero-le}
 use native.Mathlib.Nat.{le-trans, le-of-eq, le-of-lt, lt-of-lt-of-le, lt-of-le-of-lt, mul-le-mul-right}
@@ -15,7 +16,8 @@ use Rattle.ieee.specs.Pass.{Turned, kept, once, again, gone}
 use Rattle.ieee.specs.Units.{mag}
 use Rattle.ieee.proofs.Units.{digits-room, exponents-room}
 use Rattle.ieee.proofs.Ops.{Finite, Positive, finite-number, inside-finite, twice}
-use Rattle.ieee.proofs.Signs.{Follows, SameSign, div-number, follows-div, follows-nought, follows-self, follows-trans, follows-twice, mag-nought, nonzero, nonzero-is, nought, nought-finite, same-sign, twice-exact, twice-finite}
+use Rattle.ieee.proofs.Signs.{Follows, SameSign, div-number, follows-div, follows-nought, follows-self, follows-trans, follows-twice}
+use Rattle.ieee.proofs.Signs.{mag-nought, nonzero, nonzero-is, nought, nought-finite, same-sign, twice-exact, twice-finite}
 use Rattle.ieee.proofs.Sums.{abs-mag, abs-size, sum-bound}
 use Rattle.ieee.proofs.Norms.{l1, l1-ge, l1-size}
 use Rattle.ieee.proofs.Normalised.{Normal, normalised}
@@ -38,7 +40,11 @@ passed {f} {x} p h once =
     let e = four (low f) in
     let o = four-inside f in
     let i : 2 * mag f x < overflow f = omega arith in
-    record { ends = twice-finite p i; small = le-trans (le-of-eq (twice-exact p i)) (let g : 2 * mag f x ≤ 2 ^ (low f + 2) = omega arith in g); follows = follows-twice p }
+    record {
+      ends = twice-finite p i;
+      small = le-trans (le-of-eq (twice-exact p i)) (let g : 2 * mag f x ≤ 2 ^ (low f + 2) = omega arith in g);
+      follows = follows-twice p;
+    }
 passed {f} {x} p h again =
     let e = four (low f) in
     let o = four-inside f in
@@ -46,7 +52,11 @@ passed {f} {x} p h again =
     let q = twice-finite p i in
     let d = twice-exact p i in
     let i' : 2 * mag f (mul f twice x) < overflow f = omega arith in
-    record { ends = twice-finite q i'; small = le-trans (le-of-eq (twice-exact q i')) (let g : 2 * mag f (mul f twice x) ≤ 2 ^ (low f + 2) = omega arith in g); follows = follows-trans (follows-twice p) (follows-twice q) }
+    record {
+      ends = twice-finite q i';
+      small = le-trans (le-of-eq (twice-exact q i')) (let g : 2 * mag f (mul f twice x) ≤ 2 ^ (low f + 2) = omega arith in g);
+      follows = follows-trans (follows-twice p) (follows-twice q);
+    }
 passed {f} {x} p h gone = record { ends = nought-finite f false; small = le-trans (le-of-eq (mag-nought f false)) zero-le; follows = follows-nought f x false }
 
 -- ---- the pass
@@ -59,10 +69,12 @@ module _ (f : Format) (k : ℕ) (x z : ℕ → Float) (n : Normal f k x) (turned
       let r = exponents-room f in
       let d = digits-room f in
       let o : k * 2 ^ (low f + 2) < overflow f =
-      lt-of-le-of-lt (le-trans (mul-le-mul-right (2 ^ (low f + 2)) K) (le-of-eq (sym (pow-add 2 8 (low f + 2))))) (pow-lt (let g : 8 + (low f + 2) < low f + suc (emax f) = omega arith in g)) in
+      lt-of-le-of-lt (le-trans (mul-le-mul-right (2 ^ (low f + 2)) K) (le-of-eq (sym (pow-add 2 8 (low f + 2)))))
+      (pow-lt (let g : 8 + (low f + 2) < low f + suc (emax f) = omega arith in g)) in
       inside-finite (l1-size f z k pass-ends .number)
       (lt-of-le-of-lt
-      (sum-bound f (λ (j : ℕ). absOf (z j)) (low f + 2) k (λ j l. abs-size (finite-number (pass-ends j l))) (λ j l. le-trans (le-of-eq (abs-mag f (z j))) (passed (n .ends j l) (n .small j l) (turned j l) .small))
+      (sum-bound f (λ (j : ℕ). absOf (z j)) (low f + 2) k (λ j l. abs-size (finite-number (pass-ends j l)))
+      (λ j l. le-trans (le-of-eq (abs-mag f (z j))) (passed (n .ends j l) (n .small j l) (turned j l) .small))
       (lt-of-le-of-lt K (pow-lt (let g : 8 < prec f = omega arith in g))) o)
       o)
 
@@ -72,7 +84,8 @@ module _ (f : Format) (k : ℕ) (x z : ℕ → Float) (n : Normal f k x) (turned
       record {
         fin = pass-finite K;
         plus = l1-size f z k pass-ends .plus;
-        some = lt-of-lt-of-le (ltb→lt 0 (mag f (x i)) (subst T (nonzero-is (finite-number (n .ends i l))) t)) (le-trans (le-of-eq (ap (mag f) (sym e))) (l1-ge f z k pass-ends i l));
+        some = lt-of-lt-of-le (ltb→lt 0 (mag f (x i)) (subst T (nonzero-is (finite-number (n .ends i l))) t))
+            (le-trans (le-of-eq (ap (mag f) (sym e))) (l1-ge f z k pass-ends i l));
       }
 
   -- what comes out is normalised again, so the next pass has the same to start from
@@ -82,7 +95,8 @@ module _ (f : Format) (k : ℕ) (x z : ℕ → Float) (n : Normal f k x) (turned
   -- an entry that is not zero after the pass was not before, and has the sign that it had
   pub pass-signs : Positive f (l1 f z k) → (j : ℕ) → j < k → T (nonzero (div f (z j) (l1 f z k))) → SameSign (x j) (div f (z j) (l1 f z k))
   pass-signs p j l t =
-      same-sign (finite-number (n .ends j l)) (div-number (pass-ends j l) p) (follows-trans (passed (n .ends j l) (n .small j l) (turned j l) .follows) (follows-div (pass-ends j l) p)) t
+      same-sign (finite-number (n .ends j l)) (div-number (pass-ends j l) p)
+      (follows-trans (passed (n .ends j l) (n .small j l) (turned j l) .follows) (follows-div (pass-ends j l) p)) t
 
 -- ---- x becomes y in one pass
 pub record Step (f : Format) (k : ℕ) (x y : ℕ → Float) : Type 0 where
@@ -101,7 +115,10 @@ step-sum {f} {k} {x} n K s = pass-positive f k x (s .turned) n (s .each) K (s .k
 pub step-normal : {f : Format} {k : ℕ} {x y : ℕ → Float} → Normal f k x → k ≤ 2 ^ 8 → Step f k x y → Normal f k y
 step-normal {f} {k} {x} {y} n K s =
     let q = pass-normal f k x (s .turned) n (s .each) (step-sum n K s) in
-    record { ends = λ j l. subst (Finite f) (sym (s .divided j l)) (q .ends j l); small = λ j l. subst (λ (z : Float). mag f z ≤ 2 ^ low f) (sym (s .divided j l)) (q .small j l) }
+    record {
+      ends = λ j l. subst (Finite f) (sym (s .divided j l)) (q .ends j l);
+      small = λ j l. subst (λ (z : Float). mag f z ≤ 2 ^ low f) (sym (s .divided j l)) (q .small j l);
+    }
 
 -- every stage is normalised: the sum after a pass is never zero, infinite or a NaN
 pub stages : (f : Format) (k n : ℕ) (w : ℕ → Float) (stage : ℕ → ℕ → Float) → k ≤ 2 ^ 8
@@ -110,11 +127,15 @@ pub stages : (f : Format) (k n : ℕ) (w : ℕ → Float) (stage : ℕ → ℕ �
     → (i : ℕ) → i ≤ n → Normal f k (stage i)
 stages f k n w stage K h p z s zero l =
     let q = normalised f w k h p in
-    record { ends = λ j l. subst (Finite f) (sym (z j l)) (q .ends j l); small = λ j l. subst (λ (y : Float). mag f y ≤ 2 ^ low f) (sym (z j l)) (q .small j l) }
+    record {
+      ends = λ j l. subst (Finite f) (sym (z j l)) (q .ends j l);
+      small = λ j l. subst (λ (y : Float). mag f y ≤ 2 ^ low f) (sym (z j l)) (q .small j l);
+    }
 stages f k n w stage K h p z s (suc i) l = step-normal (stages f k n w stage K h p z s i (le-of-lt l)) K (s i l)
 
 -- a pass that zeroes an entry of the support leaves strictly fewer
-pub step-fewer : {f : Format} {k : ℕ} {x y : ℕ → Float} → Normal f k x → k ≤ 2 ^ 8 → (s : Step f k x y) → (i : ℕ) → i < k → T (nonzero (x i)) → nonzero (y i) ≡ false
+pub step-fewer : {f : Format} {k : ℕ} {x y : ℕ → Float} → Normal f k x → k ≤ 2 ^ 8 → (s : Step f k x y) → (i : ℕ) → i < k → T
+    (nonzero (x i)) → nonzero (y i) ≡ false
     → count (λ (j : ℕ). nonzero (y j)) k < count (λ (j : ℕ). nonzero (x j)) k
 step-fewer {f} {k} {x} {y} n K s i l t z =
     count-lt (λ (j : ℕ). nonzero (y j)) (λ (j : ℕ). nonzero (x j)) k i

@@ -14,26 +14,32 @@ use Rattle.ieee.proofs.Grid.{Rounded, grid-le, rounded}
 use Rattle.ieee.proofs.Units.{unique, units}
 use Rattle.ieee.proofs.Ops.{Finite, finite-inside, grid-same, inside-finite, min-inside, rnd-fixed, round-units, under-cap, unlike-false}
 
-mul-opened : (f : Format) (s : Bool) (m : ℕ) (i : ℤ) (r : Bool) (n : ℕ) (d : ℤ) → mul f (fin s m i) (fin r n d) ≡ round f (unlike s r) (m * up i * (n * up d)) (down i * down d)
+mul-opened : (f : Format) (s : Bool) (m : ℕ) (i : ℤ) (r : Bool) (n : ℕ) (d : ℤ) → mul f (fin s m i) (fin r n d) ≡ round f
+    (unlike s r) (m * up i * (n * up d)) (down i * down d)
 unfolding mul
 mul-opened f s m i r n d = refl
 
 product-units : (a b c d x y K : ℕ) → a * K ≡ x * c → b * K ≡ y * d → a * b * (K * K) ≡ x * y * (c * d)
 product-units a b c d x y K p q = mul-mul-mul-comm a b K K ∙ ap (λ (z : ℕ). z * (b * K)) p ∙ ap (λ (z : ℕ). x * c * z) q ∙ mul-mul-mul-comm x c y d
 
-pub mul-units : {f : Format} {x y : Float} → Finite f x → Finite f y → Rounded f (unlike (sign x) (sign y)) (grid f (mag f x * mag f y) (2 ^ low f * 2 ^ low f)) (mul f x y)
+pub mul-units : {f : Format} {x y : Float} → Finite f x → Finite f y → Rounded f (unlike (sign x) (sign y))
+    (grid f (mag f x * mag f y) (2 ^ low f * 2 ^ low f)) (mul f x y)
 mul-units {f} {x} {y} p q = go x y (p .held) (p .ends) (q .held) (q .ends)
   where
-    go : (x y : Float) → T (fits f x) → T (finite x) → T (fits f y) → T (finite y) → Rounded f (unlike (sign x) (sign y)) (grid f (mag f x * mag f y) (2 ^ low f * 2 ^ low f)) (mul f x y)
+    go : (x y : Float) → T (fits f x) → T (finite x) → T (fits f y) → T (finite y) → Rounded f (unlike (sign x) (sign y))
+        (grid f (mag f x * mag f y) (2 ^ low f * 2 ^ low f)) (mul f x y)
     go nan y p t q u = absurd t
     go (inf s) y p t q u = absurd t
     go (fin s m i) nan p t q u = absurd u
     go (fin s m i) (inf r) p t q u = absurd u
     go (fin s m i) (fin r n d) p t q u =
-        subst (λ (z : Float). Rounded f (unlike s r) (grid f (mag f (fin s m i) * mag f (fin r n d)) (2 ^ low f * 2 ^ low f)) z) (sym (mul-opened f s m i r n d))
+        subst (λ (z : Float). Rounded f (unlike s r) (grid f (mag f (fin s m i) * mag f (fin r n d)) (2 ^ low f * 2 ^ low f)) z)
+        (sym (mul-opened f s m i r n d))
         (subst (λ (z : ℕ). Rounded f (unlike s r) z (round f (unlike s r) (m * up i * (n * up d)) (down i * down d)))
-        (grid-same f (m * up i * (n * up d)) (down i * down d) (mag f (fin s m i) * mag f (fin r n d)) (2 ^ low f * 2 ^ low f) (mul-pos (down-pos i) (down-pos d)) (mul-pos (pow-pos (low f)) (pow-pos (low f)))
-        (product-units (m * up i) (n * up d) (down i) (down d) (mag f (fin s m i)) (mag f (fin r n d)) (2 ^ low f) (units f s m i p .cross) (units f r n d q .cross)))
+        (grid-same f (m * up i * (n * up d)) (down i * down d) (mag f (fin s m i) * mag f (fin r n d)) (2 ^ low f * 2 ^ low f)
+        (mul-pos (down-pos i) (down-pos d)) (mul-pos (pow-pos (low f)) (pow-pos (low f)))
+        (product-units (m * up i) (n * up d) (down i) (down d) (mag f (fin s m i)) (mag f (fin r n d)) (2 ^ low f)
+        (units f s m i p .cross) (units f r n d q .cross)))
         (rounded f (unlike s r) (m * up i * (n * up d)) (down i * down d)))
 
 -- a factor of at most 1 makes nothing larger
@@ -47,7 +53,8 @@ mul-at-most {f} {x} {y} p q h =
     (mul-units p q .size-is)
 
 pub mul-finite : {f : Format} {x y : Float} → Finite f x → Finite f y → mag f x ≤ 2 ^ low f → Finite f (mul f x y)
-mul-finite {f} {x} {y} p q h = inside-finite (record { held = mul-fits f x y; num = mul-units p q .number }) (lt-of-le-of-lt (mul-at-most p q h) (finite-inside q))
+mul-finite {f} {x} {y} p q h = inside-finite (record { held = mul-fits f x y; num = mul-units p q .number })
+    (lt-of-le-of-lt (mul-at-most p q h) (finite-inside q))
 
 -- ---- x * 1.0
 one-opened : (f : Format) (s : Bool) (m : ℕ) (e : ℤ) → mul f (fin s m e) (fin false 1 (pos 0)) ≡ round f (unlike s false) (m * up e * 1) (down e * 1)
@@ -64,9 +71,11 @@ times-one f (inf s) p = unfold mul in infs s
 times-one f (fin s m e) p =
     let o = one-opened f s m e ∙ ap (λ (z : Bool). round f z (m * up e * 1) (down e * 1)) (unlike-false s) in
     let c = units f s m e p .cross in
-    let r = round-units f s (m * up e * 1) (down e * 1) (mag f (fin s m e)) (mul-pos (down-pos e) (pow-pos 0)) (ap (λ (z : ℕ). z * 2 ^ low f) (mul-one (m * up e)) ∙ c ∙ ap (λ (z : ℕ). mag f (fin s m e) * z) (sym (mul-one (down e)))) in
+    let r = round-units f s (m * up e * 1) (down e * 1) (mag f (fin s m e)) (mul-pos (down-pos e) (pow-pos 0))
+    (ap (λ (z : ℕ). z * 2 ^ low f) (mul-one (m * up e)) ∙ c ∙ ap (λ (z : ℕ). mag f (fin s m e) * z) (sym (mul-one (down e)))) in
     let q : Finite f (fin s m e) = record { held = p; ends = tt } in
-    o ∙ unique f (round f s (m * up e * 1) (down e * 1)) (fin s m e) (subst (λ (z : Float). T (fits f z)) o (mul-fits f (fin s m e) (fin false 1 (pos 0)))) p (r .number) tt (r .signed)
+    o ∙ unique f (round f s (m * up e * 1) (down e * 1)) (fin s m e)
+    (subst (λ (z : Float). T (fits f z)) o (mul-fits f (fin s m e) (fin false 1 (pos 0)))) p (r .number) tt (r .signed)
     (r .size-is ∙ ap (min (overflow f)) (rnd-fixed q) ∙ min-inside (overflow f) (mag f (fin s m e)) (finite-inside q))
 
 -- |w| <= 2 ^ 1000

@@ -18,16 +18,24 @@ use Rattle.ieee.proofs.Units.{units, mag-le, iff, ltb-is, eqb-is, below
 
 -- ---- levels
 level-rank : (o : ℕ) (s t : Bool) (x y : ℕ) → x ≤ o → y ≤ o → level s x t y ≡ eqb (cond s (o - x) (o + x)) (cond t (o - y) (o + y))
-level-rank o false false x y h k = iff (eqb x y && true) (eqb (o + x) (o + y)) (λ u. eq→eqb (ap (λ (z : ℕ). o + z) (eqb→eq x y (and-l (eqb x y) true u)))) (λ u. and-i (eqb x y) true (eq→eqb (let e : o + x ≡ o + y = eqb→eq (o + x) (o + y) u in let g : x ≡ y = omega arith in g)) tt)
-level-rank o true true x y h k = iff (eqb x y && true) (eqb (o - x) (o - y)) (λ u. eq→eqb (ap (λ (z : ℕ). o - z) (eqb→eq x y (and-l (eqb x y) true u)))) (λ u. and-i (eqb x y) true (eq→eqb (let e : o - x ≡ o - y = eqb→eq (o - x) (o - y) u in let g : x ≡ y = omega arith in g)) tt)
+level-rank o false false x y h k = iff (eqb x y && true) (eqb (o + x) (o + y))
+    (λ u. eq→eqb (ap (λ (z : ℕ). o + z) (eqb→eq x y (and-l (eqb x y) true u))))
+    (λ u. and-i (eqb x y) true (eq→eqb (let e : o + x ≡ o + y = eqb→eq (o + x) (o + y) u in let g : x ≡ y = omega arith in g)) tt)
+level-rank o true true x y h k = iff (eqb x y && true) (eqb (o - x) (o - y))
+    (λ u. eq→eqb (ap (λ (z : ℕ). o - z) (eqb→eq x y (and-l (eqb x y) true u))))
+    (λ u. and-i (eqb x y) true (eq→eqb (let e : o - x ≡ o - y = eqb→eq (o - x) (o - y) u in let g : x ≡ y = omega arith in g)) tt)
 level-rank o false true x y h k =
     iff (eqb x y && eqb x 0) (eqb (o + x) (o - y))
-    (λ u. eq→eqb (let e : x ≡ y = eqb→eq x y (and-l (eqb x y) (eqb x 0) u) in let z : x ≡ 0 = eqb→eq x 0 (and-r (eqb x y) (eqb x 0) u) in let g : o + x ≡ o - y = omega arith in g))
-    (λ u. let e : o + x ≡ o - y = eqb→eq (o + x) (o - y) u in let g : x ≡ y = omega arith in let z : x ≡ 0 = omega arith in and-i (eqb x y) (eqb x 0) (eq→eqb g) (eq→eqb z))
+    (λ u. eq→eqb (let e : x ≡ y = eqb→eq x y (and-l (eqb x y) (eqb x 0) u) in let z : x ≡ 0 = eqb→eq x 0
+    (and-r (eqb x y) (eqb x 0) u) in let g : o + x ≡ o - y = omega arith in g))
+    (λ u. let e : o + x ≡ o - y = eqb→eq (o + x) (o - y) u in let g : x ≡ y = omega arith in let z : x ≡ 0 = omega arith in and-i
+    (eqb x y) (eqb x 0) (eq→eqb g) (eq→eqb z))
 level-rank o true false x y h k =
     iff (eqb x y && eqb x 0) (eqb (o - x) (o + y))
-    (λ u. eq→eqb (let e : x ≡ y = eqb→eq x y (and-l (eqb x y) (eqb x 0) u) in let z : x ≡ 0 = eqb→eq x 0 (and-r (eqb x y) (eqb x 0) u) in let g : o - x ≡ o + y = omega arith in g))
-    (λ u. let e : o - x ≡ o + y = eqb→eq (o - x) (o + y) u in let g : x ≡ y = omega arith in let z : x ≡ 0 = omega arith in and-i (eqb x y) (eqb x 0) (eq→eqb g) (eq→eqb z))
+    (λ u. eq→eqb (let e : x ≡ y = eqb→eq x y (and-l (eqb x y) (eqb x 0) u) in let z : x ≡ 0 = eqb→eq x 0
+    (and-r (eqb x y) (eqb x 0) u) in let g : o - x ≡ o + y = omega arith in g))
+    (λ u. let e : o - x ≡ o + y = eqb→eq (o - x) (o + y) u in let g : x ≡ y = omega arith in let z : x ≡ 0 = omega arith in and-i
+    (eqb x y) (eqb x 0) (eq→eqb g) (eq→eqb z))
 
 -- ---- finite values
 pos-is : (A B K J : ℕ) → 0 < K → 0 < J → A * K ≡ B * J → ltb 0 A ≡ ltb 0 B
@@ -52,11 +60,14 @@ module _ (a b c d x y K : ℕ) (k : 0 < K) (C : 0 < c) (D : 0 < d) (p : a * K �
   below-is : (s t : Bool) → below s (a * d) t (b * c) ≡ below s x t y
   below-is false false = ltb-is a b c d x y K k C D p q
   below-is false true = refl
-  below-is true false = pos-is (a * d + b * c) (x + y) K (c * d) k (mul-pos C D) (add-mul (a * d) (b * c) K ∙ ap (λ (z : ℕ). z + b * c * K) left ∙ ap (λ (z : ℕ). x * (c * d) + z) right ∙ sym (add-mul x y (c * d)))
+  below-is true false = pos-is (a * d + b * c) (x + y) K (c * d) k (mul-pos C D)
+      (add-mul (a * d) (b * c) K ∙ ap (λ (z : ℕ). z + b * c * K) left ∙ ap (λ (z : ℕ). x * (c * d) + z) right ∙ sym
+      (add-mul x y (c * d)))
   below-is true true = ltb-is b a d c y x K k D C q p
 
   level-is : (s t : Bool) → level s (a * d) t (b * c) ≡ level s x t y
-  level-is s t = ap (λ (u : Bool). u && (Bool·beq s t || eqb (a * d) 0)) (eqb-is a b c d x y K k C D p q) ∙ ap (λ (u : Bool). eqb x y && (Bool·beq s t || u)) (zero-is (a * d) x K (c * d) k (mul-pos C D) left)
+  level-is s t = ap (λ (u : Bool). u && (Bool·beq s t || eqb (a * d) 0)) (eqb-is a b c d x y K k C D p q) ∙ ap
+      (λ (u : Bool). eqb x y && (Bool·beq s t || u)) (zero-is (a * d) x K (c * d) k (mul-pos C D) left)
 
 -- ---- with infinities
 pub ltb-yes : (a b : ℕ) → a < b → ltb a b ≡ true
@@ -90,7 +101,8 @@ differ : (a b : ℕ) (u : Bool) → (a ≡ b → ⊥) → false ≡ eqb a b && u
 differ a b u h = iff false (eqb a b && u) (λ t. absurd t) (λ t. absurd (h (eqb→eq a b (and-l (eqb a b) u t))))
 
 level-inf : (o : ℕ) (s t : Bool) → 0 < o → Bool·beq s t ≡ level s o t o
-level-inf o s t h = sym (ap (λ (u : Bool). u && (Bool·beq s t || eqb o 0)) (is-true (eqb o o) (eqb-refl o)) ∙ drop (Bool·beq s t) (eqb o 0) (λ u. let e : o ≡ 0 = eqb→eq o 0 u in let z : ⊥ = omega arith in z))
+level-inf o s t h = sym (ap (λ (u : Bool). u && (Bool·beq s t || eqb o 0)) (is-true (eqb o o) (eqb-refl o)) ∙ drop (Bool·beq s t)
+    (eqb o 0) (λ u. let e : o ≡ 0 = eqb→eq o 0 u in let z : ⊥ = omega arith in z))
   where
     drop : (a b : Bool) → (T b → ⊥) → a || b ≡ a
     drop true b h = refl
@@ -105,7 +117,8 @@ lt-is f (inf s) (inf t) p q a b = inf-inf (overflow f) s t (pow-pos (low f + suc
 lt-is f (inf s) (fin t n d) p q a b = inf-fin (overflow f) (mag f (fin t n d)) s t (units f t n d q .inside)
 lt-is f (fin s m e) nan p q a b = absurd b
 lt-is f (fin s m e) (inf t) p q a b = fin-inf (overflow f) (mag f (fin s m e)) s t (units f s m e p .inside)
-lt-is f (fin s m e) (fin t n d) p q a b = below-is (m * up e) (n * up d) (down e) (down d) (mag f (fin s m e)) (mag f (fin t n d)) (2 ^ low f) (pow-pos (low f)) (down-pos e) (down-pos d) (units f s m e p .cross) (units f t n d q .cross) s t
+lt-is f (fin s m e) (fin t n d) p q a b = below-is (m * up e) (n * up d) (down e) (down d) (mag f (fin s m e)) (mag f (fin t n d))
+    (2 ^ low f) (pow-pos (low f)) (down-pos e) (down-pos d) (units f s m e p .cross) (units f t n d q .cross) s t
 
 apart : (n o : ℕ) → n < o → n ≡ o → ⊥
 apart n o h e = omega arith
@@ -115,10 +128,13 @@ unfolding eq
 eq-is f nan y p q a b = absurd a
 eq-is f (inf s) nan p q a b = absurd b
 eq-is f (inf s) (inf t) p q a b = level-inf (overflow f) s t (pow-pos (low f + suc (emax f)))
-eq-is f (inf s) (fin t n d) p q a b = differ (overflow f) (mag f (fin t n d)) (Bool·beq s t || eqb (overflow f) 0) (λ h. apart (mag f (fin t n d)) (overflow f) (units f t n d q .inside) (sym h))
+eq-is f (inf s) (fin t n d) p q a b = differ (overflow f) (mag f (fin t n d)) (Bool·beq s t || eqb (overflow f) 0)
+    (λ h. apart (mag f (fin t n d)) (overflow f) (units f t n d q .inside) (sym h))
 eq-is f (fin s m e) nan p q a b = absurd b
-eq-is f (fin s m e) (inf t) p q a b = differ (mag f (fin s m e)) (overflow f) (Bool·beq s t || eqb (mag f (fin s m e)) 0) (λ h. apart (mag f (fin s m e)) (overflow f) (units f s m e p .inside) h)
-eq-is f (fin s m e) (fin t n d) p q a b = level-is (m * up e) (n * up d) (down e) (down d) (mag f (fin s m e)) (mag f (fin t n d)) (2 ^ low f) (pow-pos (low f)) (down-pos e) (down-pos d) (units f s m e p .cross) (units f t n d q .cross) s t
+eq-is f (fin s m e) (inf t) p q a b = differ (mag f (fin s m e)) (overflow f) (Bool·beq s t || eqb (mag f (fin s m e)) 0)
+    (λ h. apart (mag f (fin s m e)) (overflow f) (units f s m e p .inside) h)
+eq-is f (fin s m e) (fin t n d) p q a b = level-is (m * up e) (n * up d) (down e) (down d) (mag f (fin s m e)) (mag f (fin t n d))
+    (2 ^ low f) (pow-pos (low f)) (down-pos e) (down-pos d) (units f s m e p .cross) (units f t n d q .cross) s t
 
 -- ---- a NaN
 
@@ -148,10 +164,12 @@ pub record Number (f : Format) (x : Float) : Type 0 where
   pub num : T (isNum x)
 
 pub lt-rank : {f : Format} {x y : Float} → Number f x → Number f y → lt x y ≡ ltb (rank f x) (rank f y)
-lt-rank {f} {x} {y} p q = lt-is f x y (p .held) (q .held) (p .num) (q .num) ∙ below-rank (overflow f) (sign x) (sign y) (mag f x) (mag f y) (mag-le f x (p .held)) (mag-le f y (q .held))
+lt-rank {f} {x} {y} p q = lt-is f x y (p .held) (q .held) (p .num) (q .num) ∙ below-rank (overflow f) (sign x) (sign y) (mag f x)
+    (mag f y) (mag-le f x (p .held)) (mag-le f y (q .held))
 
 pub eq-rank : {f : Format} {x y : Float} → Number f x → Number f y → eq x y ≡ eqb (rank f x) (rank f y)
-eq-rank {f} {x} {y} p q = eq-is f x y (p .held) (q .held) (p .num) (q .num) ∙ level-rank (overflow f) (sign x) (sign y) (mag f x) (mag f y) (mag-le f x (p .held)) (mag-le f y (q .held))
+eq-rank {f} {x} {y} p q = eq-is f x y (p .held) (q .held) (p .num) (q .num) ∙ level-rank (overflow f) (sign x) (sign y) (mag f x)
+    (mag f y) (mag-le f x (p .held)) (mag-le f y (q .held))
 
 or-le : (a b : ℕ) → ltb a b || eqb a b ≡ leb a b
 or-le a b = iff (ltb a b || eqb a b) (leb a b) (λ t. le→leb a b (go (ltb a b) (ltb→lt a b) t)) (λ t. back (ltb a b) (nltb→le a b) (leb→le a b t))
@@ -166,12 +184,14 @@ or-le a b = iff (ltb a b || eqb a b) (leb a b) (λ t. le→leb a b (go (ltb a b)
 
 pub le-rank : {f : Format} {x y : Float} → Number f x → Number f y → le x y ≡ leb (rank f x) (rank f y)
 unfolding le
-le-rank {f} {x} {y} p q = ap (λ (u : Bool). u || eq x y) (lt-rank p q) ∙ ap (λ (u : Bool). ltb (rank f x) (rank f y) || u) (eq-rank p q) ∙ or-le (rank f x) (rank f y)
+le-rank {f} {x} {y} p q = ap (λ (u : Bool). u || eq x y) (lt-rank p q) ∙ ap (λ (u : Bool). ltb (rank f x) (rank f y) || u)
+    (eq-rank p q) ∙ or-le (rank f x) (rank f y)
 
 -- ---- so `le` is an order
 pub le-transitive : {f : Format} {x y z : Float} → Number f x → Number f y → Number f z → T (le x y) → T (le y z) → T (le x z)
 le-transitive {f} {x} {y} {z} p q r h k =
-    rw (le-rank p r) (le→leb (rank f x) (rank f z) (le-trans (leb→le (rank f x) (rank f y) (rw (le-rank p q) at h)) (leb→le (rank f y) (rank f z) (rw (le-rank q r) at k))))
+    rw (le-rank p r) (le→leb (rank f x) (rank f z) (le-trans (leb→le (rank f x) (rank f y) (rw (le-rank p q) at h))
+    (leb→le (rank f y) (rank f z) (rw (le-rank q r) at k))))
 
 -- not below is at or above
 pub lt-not-le : {f : Format} {x y : Float} → Number f x → Number f y → lt x y ≡ not (le y x)
@@ -189,4 +209,5 @@ pub mag→le : {f : Format} {x y : Float} → Number f x → Number f y → sign
 mag→le {f} {x} {y} p q s t h = rw (le-rank p q, s, t) (le→leb (overflow f + mag f x) (overflow f + mag f y) (omega arith))
 
 pub le→mag : {f : Format} {x y : Float} → Number f x → Number f y → sign x ≡ false → sign y ≡ false → T (le x y) → mag f x ≤ mag f y
-le→mag {f} {x} {y} p q s t h = let g : overflow f + mag f x ≤ overflow f + mag f y = leb→le (overflow f + mag f x) (overflow f + mag f y) (rw (le-rank p q, s, t) at h) in omega arith
+le→mag {f} {x} {y} p q s t h = let g : overflow f + mag f x ≤ overflow f + mag f y = leb→le (overflow f + mag f x)
+    (overflow f + mag f y) (rw (le-rank p q, s, t) at h) in omega arith

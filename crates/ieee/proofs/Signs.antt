@@ -15,7 +15,8 @@ use Rattle.ieee.specs.Units.{sign, mag, isNum}
 use Rattle.ieee.proofs.Grid.{grid-le, grid-exact}
 use Rattle.ieee.proofs.Units.{iff}
 use Rattle.ieee.proofs.Ranks.{Number, eq-is, lt-is}
-use Rattle.ieee.proofs.Ops.{one-few, under-cap, at-least, Finite, finite-number, finite-inside, inside-finite, grid-zero, rnd, rnd-mono, rnd-fixed, twice, double-units, double-exact, mul-commutes, Positive, div-units}
+use Rattle.ieee.proofs.Ops.{one-few, under-cap, at-least, Finite, finite-number, finite-inside, inside-finite, grid-zero, rnd}
+use Rattle.ieee.proofs.Ops.{rnd-mono, rnd-fixed, twice, double-units, double-exact, mul-commutes, Positive, div-units}
 
 -- +0.0
 abbrev pub nought : Float
@@ -41,7 +42,8 @@ nought-finite f s = record { held = unfold fits in tt; ends = tt }
 
 -- ---- the tests against zero
 level-zero : (s : Bool) (n : ℕ) → not (level s n false 0) ≡ ltb 0 n
-level-zero s n = iff (not (eqb n 0 && (Bool·beq s false || eqb n 0))) (ltb 0 n) (λ t. go s (eq-zero-or-pos n) t) (λ t. back (eqb n 0) (eqb→eq n 0) (ltb→lt 0 n t))
+level-zero s n = iff (not (eqb n 0 && (Bool·beq s false || eqb n 0))) (ltb 0 n) (λ t. go s (eq-zero-or-pos n) t)
+    (λ t. back (eqb n 0) (eqb→eq n 0) (ltb→lt 0 n t))
   where
     same : (s : Bool) → Bool·beq s false || true ≡ true
     same true = refl
@@ -71,10 +73,12 @@ under-zero false n = iff (ltb n 0) false (λ t. let h : n < 0 = ltb→lt n 0 t i
 
 -- 0.0 < x, and x < 0.0
 pub above-is : {f : Format} {x : Float} → Number f x → lt nought x ≡ not (sign x) && ltb 0 (mag f x)
-above-is {f} {x} p = lt-is f nought x (nought-finite f false .held) (p .held) tt (p .num) ∙ ap (λ (z : ℕ). below false z (sign x) (mag f x)) (mag-nought f false) ∙ above-zero (sign x) (mag f x)
+above-is {f} {x} p = lt-is f nought x (nought-finite f false .held) (p .held) tt (p .num) ∙ ap
+    (λ (z : ℕ). below false z (sign x) (mag f x)) (mag-nought f false) ∙ above-zero (sign x) (mag f x)
 
 pub under-is : {f : Format} {x : Float} → Number f x → lt x nought ≡ sign x && ltb 0 (mag f x)
-under-is {f} {x} p = lt-is f x nought (p .held) (nought-finite f false .held) (p .num) tt ∙ ap (λ (z : ℕ). below (sign x) (mag f x) false z) (mag-nought f false) ∙ under-zero (sign x) (mag f x)
+under-is {f} {x} p = lt-is f x nought (p .held) (nought-finite f false .held) (p .num) tt ∙ ap
+    (λ (z : ℕ). below (sign x) (mag f x) false z) (mag-nought f false) ∙ under-zero (sign x) (mag f x)
 
 -- ---- x, where it is not zero, has the sign of a w that is not zero
 pub record Follows (f : Format) (w x : Float) : Type 0 where
@@ -88,7 +92,10 @@ pub follows-trans : {f : Format} {w x y : Float} → Follows f w x → Follows f
 follows-trans p q = record { before = λ h. p .before (q .before h); sign-of = λ h. q .sign-of h ∙ p .sign-of (q .before h) }
 
 pub follows-nought : (f : Format) (w : Float) (s : Bool) → Follows f w (fin s 0 (pos 0))
-follows-nought f w s = record { before = λ h. absurd (lt-irrefl 0 (subst (λ (z : ℕ). 0 < z) (mag-nought f s) h)); sign-of = λ h. absurd (lt-irrefl 0 (subst (λ (z : ℕ). 0 < z) (mag-nought f s) h)) }
+follows-nought f w s = record {
+  before = λ h. absurd (lt-irrefl 0 (subst (λ (z : ℕ). 0 < z) (mag-nought f s) h));
+  sign-of = λ h. absurd (lt-irrefl 0 (subst (λ (z : ℕ). 0 < z) (mag-nought f s) h));
+}
 
 -- the tests say it
 pub record SameSign (w x : Float) : Type 0 where
@@ -129,7 +136,8 @@ twice-finite {f} {w} p h = inside-finite (twice-number p) (subst (λ (z : ℕ). 
 
 pub twice-ge : {f : Format} {w : Float} → Finite f w → mag f w ≤ mag f (mul f twice w)
 twice-ge {f} {w} p =
-    le-trans (at-least (overflow f) (mag f w) (rnd f (2 * mag f w)) (finite-inside p) (le-trans (le-of-eq (sym (rnd-fixed p))) (rnd-mono f (let h : mag f w ≤ 2 * mag f w = omega arith in h))))
+    le-trans (at-least (overflow f) (mag f w) (rnd f (2 * mag f w)) (finite-inside p)
+    (le-trans (le-of-eq (sym (rnd-fixed p))) (rnd-mono f (let h : mag f w ≤ 2 * mag f w = omega arith in h))))
     (le-of-eq (sym (twice-mag p)))
 
 none : (n : ℕ) → n ≡ 0 → 0 < n → ⊥
@@ -148,7 +156,9 @@ follows-twice {f} {w} p = record { before = λ h. go (eq-zero-or-pos (mag f w)) 
 pub twice-nonzero : {f : Format} {w : Float} → Finite f w → nonzero (mul f twice w) ≡ nonzero w
 twice-nonzero {f} {w} p =
     nonzero-is (twice-number p)
-    ∙ iff (ltb 0 (mag f (mul f twice w))) (ltb 0 (mag f w)) (λ t. lt→ltb 0 (mag f w) (follows-twice p .before (ltb→lt 0 (mag f (mul f twice w)) t))) (λ t. lt→ltb 0 (mag f (mul f twice w)) (lt-of-lt-of-le (ltb→lt 0 (mag f w) t) (twice-ge p)))
+    ∙ iff (ltb 0 (mag f (mul f twice w))) (ltb 0 (mag f w))
+    (λ t. lt→ltb 0 (mag f w) (follows-twice p .before (ltb→lt 0 (mag f (mul f twice w)) t)))
+    (λ t. lt→ltb 0 (mag f (mul f twice w)) (lt-of-lt-of-le (ltb→lt 0 (mag f w) t) (twice-ge p)))
     ∙ sym (nonzero-is (finite-number p))
 
 -- ---- w over a positive value
@@ -173,13 +183,16 @@ unit-inside f = pow-lt (let h : low f < low f + suc (emax f) = omega arith in h)
 
 -- 1.0 is 2 ^ low units
 pub one-units : (f : Format) → grid f 1 1 ≡ 2 ^ low f
-one-units f = grid-exact f 1 1 1 (low f) (pow-pos 0) (one-few f) (lt-of-le-of-lt (le-of-eq (one-mul (2 ^ low f))) (unit-inside f)) (sym (mul-one (1 * 2 ^ low f))) ∙ one-mul (2 ^ low f)
+one-units f = grid-exact f 1 1 1 (low f) (pow-pos 0) (one-few f) (lt-of-le-of-lt (le-of-eq (one-mul (2 ^ low f))) (unit-inside f))
+    (sym (mul-one (1 * 2 ^ low f))) ∙ one-mul (2 ^ low f)
 
 -- a value no larger than y gives a quotient of at most 1
 pub div-at-most-one : {f : Format} {w y : Float} → Finite f w → Positive f y → mag f w ≤ mag f y → mag f (div f w y) ≤ 2 ^ low f
 div-at-most-one {f} {w} {y} p q h =
     under-cap (overflow f) (2 ^ low f) (grid f (mag f w) (mag f y)) (mag f (div f w y))
-    (le-trans (grid-le f (mag f w) (mag f y) 1 1 (q .some) (pow-pos 0) (le-trans (le-of-eq (mul-one (mag f w))) (le-trans h (le-of-eq (sym (one-mul (mag f y))))))) (le-of-eq (one-units f)))
+    (le-trans (grid-le f (mag f w) (mag f y) 1 1 (q .some) (pow-pos 0)
+    (le-trans (le-of-eq (mul-one (mag f w))) (le-trans h (le-of-eq (sym (one-mul (mag f y)))))))
+    (le-of-eq (one-units f)))
     (div-units p q .size-is)
 
 pub div-finite : {f : Format} {w y : Float} → Finite f w → Positive f y → mag f w ≤ mag f y → Finite f (div f w y)
@@ -190,13 +203,15 @@ share : (f : Format) (k : ℕ) → k ≤ low f → grid f 1 (2 ^ k) ≡ 2 ^ (low
 share f k h =
     grid-exact f 1 (2 ^ k) 1 (low f - k) (pow-pos k) (one-few f)
     (lt-of-le-of-lt (le-of-eq (one-mul (2 ^ (low f - k)))) (lt-of-le-of-lt (pow-mono (let g : low f - k ≤ low f = omega arith in g)) (unit-inside f)))
-    (one-mul (2 ^ low f) ∙ ap (λ (z : ℕ). 2 ^ z) (let g : low f ≡ low f - k + k = omega arith in g) ∙ pow-add 2 (low f - k) k ∙ ap (λ (z : ℕ). z * 2 ^ k) (sym (one-mul (2 ^ (low f - k)))))
+    (one-mul (2 ^ low f) ∙ ap (λ (z : ℕ). 2 ^ z) (let g : low f ≡ low f - k + k = omega arith in g) ∙ pow-add 2 (low f - k) k ∙ ap
+    (λ (z : ℕ). z * 2 ^ k) (sym (one-mul (2 ^ (low f - k)))))
     ∙ one-mul (2 ^ (low f - k))
 
 pub div-at-least : {f : Format} {w y : Float} (k : ℕ) → Finite f w → Positive f y → k ≤ low f → mag f y ≤ mag f w * 2 ^ k → 2 ^ (low f - k) ≤ mag f (div f w y)
 div-at-least {f} {w} {y} k p q K h =
     le-trans
-    (at-least (overflow f) (2 ^ (low f - k)) (grid f (mag f w) (mag f y)) (lt-of-le-of-lt (pow-mono (let g : low f - k ≤ low f = omega arith in g)) (unit-inside f))
+    (at-least (overflow f) (2 ^ (low f - k)) (grid f (mag f w) (mag f y))
+    (lt-of-le-of-lt (pow-mono (let g : low f - k ≤ low f = omega arith in g)) (unit-inside f))
     (le-trans (le-of-eq (sym (share f k K))) (grid-le f 1 (2 ^ k) (mag f w) (mag f y) (pow-pos k) (q .some) (le-trans (le-of-eq (one-mul (mag f y))) h))))
     (le-of-eq (sym (div-units p q .size-is)))
 

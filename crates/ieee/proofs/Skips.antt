@@ -20,5 +20,6 @@ mul-by-zero f (fin s m e) nan t z = absurd z
 mul-by-zero f (fin s m e) (inf r) t z = absurd z
 mul-by-zero f (fin s m e) (fin r zero d) t z =
     subst (λ (x : Float). T (isZero x))
-    (sym (ap (λ (n : ℕ). round f (unlike s r) n (down e * down d)) (zero-product m (up e) (up d)) ∙ round-zero f (unlike s r) (down e * down d) (mul-pos (down-pos e) (down-pos d)))) tt
+    (sym (ap (λ (n : ℕ). round f (unlike s r) n (down e * down d)) (zero-product m (up e) (up d)) ∙ round-zero f (unlike s r)
+    (down e * down d) (mul-pos (down-pos e) (down-pos d)))) tt
 mul-by-zero f (fin s m e) (fin r (suc n) d) t z = absurd z

@@ -67,8 +67,12 @@ finite-grown {f} {x} {y} p q s t =
     let r = add-units p q (s ∙ sym t) in
     record {
       size = record { number = record { held = add-fits f x y; num = r .number }; plus = r .signed ∙ t };
-      left = le-trans (at-least (overflow f) (mag f x) (rnd f (mag f x + mag f y)) (finite-inside p) (le-trans (le-of-eq (sym (rnd-fixed p))) (rnd-mono f (let h : mag f x ≤ mag f x + mag f y = omega arith in h)))) (le-of-eq (sym (r .size-is)));
-      right = le-trans (at-least (overflow f) (mag f y) (rnd f (mag f x + mag f y)) (finite-inside q) (le-trans (le-of-eq (sym (rnd-fixed q))) (rnd-mono f (let h : mag f y ≤ mag f x + mag f y = omega arith in h)))) (le-of-eq (sym (r .size-is)));
+      left = le-trans (at-least (overflow f) (mag f x) (rnd f (mag f x + mag f y)) (finite-inside p)
+          (le-trans (le-of-eq (sym (rnd-fixed p))) (rnd-mono f (let h : mag f x ≤ mag f x + mag f y = omega arith in h))))
+          (le-of-eq (sym (r .size-is)));
+      right = le-trans (at-least (overflow f) (mag f y) (rnd f (mag f x + mag f y)) (finite-inside q)
+          (le-trans (le-of-eq (sym (rnd-fixed q))) (rnd-mono f (let h : mag f y ≤ mag f x + mag f y = omega arith in h))))
+          (le-of-eq (sym (r .size-is)));
     }
 
 inf-size : (f : Format) → Size f (inf false)
@@ -113,14 +117,16 @@ sum-ge f v (suc k) h j l = go (eq-or (le-pred l)) (sum-ge f v k (fewer f v k h) 
     eq-or l = eq-or-lt-of-le l
 
     go : (j ≡ k) ⊎ (j < k) → (j < k → mag f (v j) ≤ mag f (sumUp f v k)) → mag f (v j) ≤ mag f (add f (sumUp f v k) (v k))
-    go (inl e) ih = subst (λ (i : ℕ). mag f (v i) ≤ mag f (add f (sumUp f v k) (v k))) (sym e) (grown (sum-size f v k (fewer f v k h)) (h k (lt-suc-self k)) .right)
+    go (inl e) ih = subst (λ (i : ℕ). mag f (v i) ≤ mag f (add f (sumUp f v k) (v k))) (sym e)
+        (grown (sum-size f v k (fewer f v k h)) (h k (lt-suc-self k)) .right)
     go (inr l) ih = le-trans (ih l) (grown (sum-size f v k (fewer f v k h)) (h k (lt-suc-self k)) .left)
 
 -- zero where every term is zero
 none : (o g m : ℕ) → g ≡ 0 → m ≡ min o g → m ≡ 0
 none o g m h e = omega arith
 
-pub sum-bound : (f : Format) (v : ℕ → Float) (p k : ℕ) → ((j : ℕ) → j < k → Size f (v j)) → ((j : ℕ) → j < k → mag f (v j) ≤ 2 ^ p) → k < 2 ^ prec f → k * 2 ^ p < overflow f → mag f (sumUp f v k) ≤ k * 2 ^ p
+pub sum-bound : (f : Format) (v : ℕ → Float) (p k : ℕ) → ((j : ℕ) → j < k → Size f (v j)) → ((j : ℕ) → j < k → mag f (v j) ≤ 2 ^ p)
+    → k < 2 ^ prec f → k * 2 ^ p < overflow f → mag f (sumUp f v k) ≤ k * 2 ^ p
 unfolding sumFrom
 sum-bound f v p zero h b few o = le-of-eq (mag-nought f false ∙ sym (zero-mul (2 ^ p)))
 sum-bound f v p (suc k) h b few o =

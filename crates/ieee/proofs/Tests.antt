@@ -27,4 +27,6 @@ positive-of-tests {f} {x} h t u =
     no false t = refl
 
 pub tests-of-positive : {f : Format} {x : Float} → Positive f x → T (lt nought x)
-tests-of-positive {f} {x} p = subst T (sym (above-is (finite-number (p .fin)) ∙ ap (λ (s : Bool). not s && ltb 0 (mag f x)) (p .plus))) (lt→ltb 0 (mag f x) (p .some))
+tests-of-positive {f} {x} p = subst T
+    (sym (above-is (finite-number (p .fin)) ∙ ap (λ (s : Bool). not s && ltb 0 (mag f x)) (p .plus)))
+    (lt→ltb 0 (mag f x) (p .some))

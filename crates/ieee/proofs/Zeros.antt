@@ -1,4 +1,5 @@
--- The sign of a sum that is zero: a running sum from +0.0 is never -0.0, so a zero term of either sign leaves it as it is. Which test says that a value is a zero.
+-- The sign of a sum that is zero: a running sum from +0.0 is never -0.0, so a zero term of either sign leaves it as it is. Which test says that a value is
+-- a zero.
 use mathlib.Core.Path.{_≡_, refl, sym, ap, _∙_, subst}
 use mathlib.Core.Logic.{_⊎_, inl, inr}
 use Prim.Native.Nat.{ℕ, zero, suc, _+_, _-_, _*_, _^_, _≤_, _<_, min}
@@ -101,7 +102,9 @@ finite-case {f} {x} {y} p q h = go (isMinusZero (add f x y)) (λ t. of-minus f (
     go false k = tt
     go true k =
         let w = k tt in
-        let z = zero-sum f (sumSize (sign x) (mag f x) (sign y) (mag f y)) (capped (overflow f) (rnd f (sumSize (sign x) (mag f x) (sign y) (mag f y))) (mag f (add f x y)) (over-pos f) (r .size-is) (w .1)) in
+        let z = zero-sum f (sumSize (sign x) (mag f x) (sign y) (mag f y))
+        (capped (overflow f) (rnd f (sumSize (sign x) (mag f x) (sign y) (mag f y))) (mag f (add f x y)) (over-pos f)
+        (r .size-is) (w .1)) in
         let v = sign-of-zero (sign x) (sign y) (mag f x) (mag f y) (sym (r .signed) ∙ w .0) z in
         let g = not-minus f x (p .held) (p .ends) h (v .0) in
         let e = v .1 in
@@ -131,7 +134,8 @@ sum-fits f v (suc k) = add-fits f (sumUp f v k) (v k)
 pub sum-never-minus : (f : Format) (v : ℕ → Float) (k : ℕ) → ((j : ℕ) → j < k → T (fits f (v j))) → T (not (isMinusZero (sumUp f v k)))
 unfolding sumFrom
 sum-never-minus f v zero h = tt
-sum-never-minus f v (suc k) h = never-minus f (sumUp f v k) (v k) (sum-fits f v k) (h k (lt-suc-self k)) (sum-never-minus f v k (λ j l. h j (le-trans l (le-suc k))))
+sum-never-minus f v (suc k) h = never-minus f (sumUp f v k) (v k) (sum-fits f v k) (h k (lt-suc-self k))
+    (sum-never-minus f v k (λ j l. h j (le-trans l (le-suc k))))
 
 -- ---- a zero of either sign added to a value that is not -0.0
 signs : (s t : Bool) (x : ℕ) → (s ≡ true → 0 < x) → sumSign s x t 0 ≡ s
@@ -169,7 +173,9 @@ finite-plus-zero {f} {x} t p h =
     let n = mag-nought f t in
     unique f (add f x (fin t 0 (pos 0))) x (add-fits f x (fin t 0 (pos 0))) (p .held) (r .number) (finite-number p .num)
     (r .signed ∙ ap (λ (z : ℕ). sumSign (sign x) (mag f x) t z) n ∙ signs (sign x) t (mag f x) (not-minus f x (p .held) (p .ends) h))
-    (r .size-is ∙ ap (λ (z : ℕ). min (overflow f) (rnd f (sumSize (sign x) (mag f x) t z))) n ∙ ap (λ (z : ℕ). min (overflow f) (rnd f z)) (sizes (sign x) t (mag f x)) ∙ ap (min (overflow f)) (rnd-fixed p) ∙ min-inside (overflow f) (mag f x) (finite-inside p))
+    (r .size-is ∙ ap (λ (z : ℕ). min (overflow f) (rnd f (sumSize (sign x) (mag f x) t z))) n ∙ ap
+    (λ (z : ℕ). min (overflow f) (rnd f z)) (sizes (sign x) t (mag f x)) ∙ ap (min (overflow f)) (rnd-fixed p) ∙ min-inside
+    (overflow f) (mag f x) (finite-inside p))
 
 pub plus-zero : (f : Format) (x : Float) (t : Bool) → T (fits f x) → T (not (isMinusZero x)) → add f x (fin t 0 (pos 0)) ≡ x
 plus-zero f nan t p h = unfold add in refl
@@ -209,7 +215,9 @@ unfolding ne eq
 nonzero-not-zero nan = refl
 nonzero-not-zero (inf s) = refl
 nonzero-not-zero (fin s zero e) = ap not (same-zero s (0 * up e * 1) (0 * 1 * down e) (zero-times (up e) 1) (zero-times 1 (down e)))
-nonzero-not-zero (fin s (suc m) e) = ap not (differ (suc m * up e * 1) (0 * 1 * down e) (Bool·beq s false || eqb (suc m * up e * 1) 0) (λ h. none (suc m * up e * 1) (0 * 1 * down e) (mul-pos (mul-pos (zero-lt-suc m) (up-pos e)) (pow-pos 0)) (zero-times 1 (down e)) h))
+nonzero-not-zero (fin s (suc m) e) = ap not (differ (suc m * up e * 1) (0 * 1 * down e)
+    (Bool·beq s false || eqb (suc m * up e * 1) 0) (λ h. none (suc m * up e * 1) (0 * 1 * down e)
+    (mul-pos (mul-pos (zero-lt-suc m) (up-pos e)) (pow-pos 0)) (zero-times 1 (down e)) h))
   where
     none : (a b : ℕ) → 0 < a → b ≡ 0 → a ≡ b → ⊥
     none a b h k e = omega arith

@@ -81,7 +81,8 @@ module _ {z : Float} {l count : ℕ} {b v : List Float} where
   unfolding inserted
   full h = stays (rw length-vectors (go (ltb count l) (ltb-true count l)))
     where
-      go : (t : Bool) → (t ≡ true → count < l) → pick (t && taken z (vectorsIn l count b) v) (vectorsIn l count b ++ (unit z (projected z (vectorsIn l count b) v) ∷ [])) (vectorsIn l count b) ≡ vectorsIn l count b
+      go : (t : Bool) → (t ≡ true → count < l) → pick (t && taken z (vectorsIn l count b) v)
+          (vectorsIn l count b ++ (unit z (projected z (vectorsIn l count b) v) ∷ [])) (vectorsIn l count b) ≡ vectorsIn l count b
       go true f = absurd (omega (arith, f refl))
       go false f = refl
 

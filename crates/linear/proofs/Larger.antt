@@ -34,26 +34,31 @@ unfolding maxAbsTo
 max-more v k = refl
 
 -- d places more, none of them above
-max-on : (v : ℕ → Float) (from d : ℕ) → ((k : ℕ) → from ≤ k → k < from + d → lt (maxAbsTo v from) (absOf (v k)) ≡ false) → maxAbsTo v (from + d) ≡ maxAbsTo v from
+max-on : (v : ℕ → Float) (from d : ℕ) → ((k : ℕ) → from ≤ k → k < from + d → lt (maxAbsTo v from) (absOf (v k)) ≡ false) → maxAbsTo
+    v (from + d) ≡ maxAbsTo v from
 max-on v from zero h =
     let e : from + 0 ≡ from = omega arith in
     ap (maxAbsTo v) e
 max-on v from (suc d) h =
     let before : maxAbsTo v (from + d) ≡ maxAbsTo v from = max-on v from d (λ k l m. h k l (omega arith)) in
-    let stays : largerOf (maxAbsTo v from) (absOf (v (from + d))) ≡ maxAbsTo v from = larger-stays _ _ (max-number v from) (h (from + d) (omega arith) (omega arith)) in
+    let stays : largerOf (maxAbsTo v from) (absOf (v (from + d))) ≡ maxAbsTo v from = larger-stays _ _ (max-number v from)
+    (h (from + d) (omega arith) (omega arith)) in
     let e : from + suc d ≡ suc (from + d) = omega arith in
     ap (maxAbsTo v) e ∙ max-more v (from + d) ∙ ap (λ (x : Float). largerOf x (absOf (v (from + d)))) before ∙ stays
 
 pub max-passed : {a : List Float} {most : Float} {from r : ℕ} → NoLarger a most from r → most ≡ maxAbsTo (at a) from → most ≡ maxAbsTo (at a) r
 max-passed {a} {most} {from} {r} p e =
     let d : from + (r - from) ≡ r = omega (arith, p .low) in
-    e ∙ sym (max-on (at a) from (r - from) (λ k l m. subst (λ (x : Float). lt x (absOf (at a k)) ≡ false) e (p .none k l (omega arith)))) ∙ ap (maxAbsTo (at a)) d
+    e ∙ sym (max-on (at a) from (r - from)
+    (λ k l m. subst (λ (x : Float). lt x (absOf (at a k)) ≡ false) e (p .none k l (omega arith)))) ∙ ap (maxAbsTo (at a))
+    d
 
 -- no place, and one place more, is passed over
 pub none-larger : (a : List Float) (most : Float) (from : ℕ) → NoLarger a most from from
 none-larger a most from = record { low = omega arith; inside = λ h. h; none = λ k l m. absurd (omega arith) }
 
-pub one-not-larger : {a : List Float} {most : Float} {from i : ℕ} → NoLarger a most from i → i < length a → lt most (absOf (at a i)) ≡ false → NoLarger a most from (i + 1)
+pub one-not-larger : {a : List Float} {most : Float} {from i : ℕ} → NoLarger a most from i → i < length a → lt most
+    (absOf (at a i)) ≡ false → NoLarger a most from (i + 1)
 one-not-larger {a} {most} {from} {i} p h e =
     record { low = omega (arith, p .low); inside = λ l. omega arith; none = λ k l m. at-most k l (eq-or-lt-of-le (omega arith)) }
   where

@@ -1,4 +1,4 @@
--- How a basis stands in a slice: vector after vector, each l long.
+-- Told between functions: how a basis stands in a slice, vector after vector, each l long.
 use Prim.Native.Nat.{ℕ, _*_}
 use mathlib.Core.Path.{_≡_}
 use mathlib.Core.List.{List}

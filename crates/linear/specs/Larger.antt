@@ -1,4 +1,4 @@
--- Places that the search for the largest magnitude may pass over.
+-- Told between functions: places that the search for the largest magnitude may pass over.
 use Prim.Native.Nat.{ℕ, _≤_, _<_}
 use mathlib.Core.Path.{_≡_}
 use mathlib.Core.Bool.{false}

@@ -37,7 +37,9 @@ fn pass(basis: &[f64], count: usize, l: usize, v: &mut [f64])
 // v - c q, and what is left of v along r.
 fn less_then_dot(v: &mut [f64], c: f64, q: &[f64], r: &[f64]) -> f64
     requires { ⌜ (length (now v) ≡ length (now q)) × (length (now r) ≡ length (now q)) ⌝ }
-    ensures { λ s. ⌜ (now (v .exit) ≡ tabulate (lessAt c (now (q .entry)) (now (v .entry))) (length (now (v .entry)))) × (s ≡ dotOf plusZero (now (r .entry)) (tabulate (lessAt c (now (q .entry)) (now (v .entry))) (length (now (v .entry))))) ⌝ }
+    ensures { λ s. ⌜ (now (v .exit) ≡ tabulate (lessAt c (now (q .entry)) (now (v .entry))) (length (now (v .entry)))) × (s
+        ≡ dotOf plusZero (now (r .entry))
+        (tabulate (lessAt c (now (q .entry)) (now (v .entry))) (length (now (v .entry))))) ⌝ }
 {
     let mut along = 0.0;
     let mut i = 0usize;
@@ -62,7 +64,7 @@ fn less_scaled(v: &mut [f64], c: f64, q: &[f64])
     }
 }
 
-// Two passes ("twice is enough") over the count vectors of the basis, each l long.
+// Over the count vectors of the basis, each l long, and over them once more: the second pass takes what rounding left in the first.
 pub fn project_out(basis: &[f64], count: usize, l: usize, v: &mut [f64])
     requires { ⌜ (length (now v) ≡ l) × (count * l ≤ length (now basis)) ⌝ }
     ensures { λ _. ⌜ now (v .exit) ≡ projected plusZero (vectorsIn l count (now (basis .entry))) (now (v .entry)) ⌝ }
@@ -140,7 +142,8 @@ fn next_larger(a: &[f64], from: usize, most: f64) -> usize
     i
 }
 
-// The largest magnitude, a NaN skipped; 0.0 of none. What is not above the largest so far is passed over, so that no place waits for the one before.
+// The largest magnitude, a NaN skipped; 0.0 of none. What is not above the largest so far is passed over, so that no place waits
+// for the one before.
 pub fn max_abs(a: &[f64]) -> f64
     ensures { λ r. ⌜ r ≡ maxAbsOf (now (a .entry)) ⌝ }
 {

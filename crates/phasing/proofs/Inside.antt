@@ -14,12 +14,13 @@ use lib.Ieee.{Float, nan}
 use Rattle.seq.specs.Choice.{pick}
 use Rattle.seq.specs.Lists.{tabulate, repeated}
 use Rattle.seq.specs.Sums.{plusZero, at}
-use Rattle.seq.specs.Keep.{keep, Pushed}
-use Rattle.seq.specs.Indices.{Below}
+use Rattle.seq.specs.Keep.{keep}
+use Rattle.seq.specs.Indices.{Pushed, Below}
 use Rattle.seq.proofs.Filling.{length-tab, getD-tab}
 use Rattle.seq.proofs.Keeping.{keep-short, keep-good}
 use Rattle.seq.specs.Marks.{isSet}
-use Rattle.entries.specs.Entries.{entryOf, Chosen}
+use Rattle.entries.specs.Entries.{entryOf}
+use Rattle.entries.specs.ChosenColumns.{Chosen}
 use Rattle.freeze.specs.Freeze.{Walk}
 use Rattle.begin.specs.Begin.{begun}
 use Rattle.walk.specs.Walk.{phaseOf}
@@ -54,7 +55,8 @@ module _ (u : List Float) (n : ℕ) (cols : List ℕ) (scale : List Float) (plac
             rw (getD-tab {A = ℕ} (λ q. getD cols (getD places q 0) 0) (length places) p 0 q) (c .inside (getD places p 0) (b .below p q));
         sound = λ p i g t.
             let q : p < length places = omega arith in
-            rw (entry-chosen p q i) (c .sound (getD places p 0) i (b .below p q) (rw (getD-tab (λ q. at scale (getD places q 0)) (length places) p nan q) at t));
+            rw (entry-chosen p q i) (c .sound (getD places p 0) i (b .below p q)
+            (rw (getD-tab (λ q. at scale (getD places q 0)) (length places) p nan q) at t));
       }
 
 pub roomy-part : (k l : ℕ) (num : List Float) (blocked : List ℕ) (x some-x : List Float) (free some-free : List ℕ)

@@ -1,4 +1,4 @@
--- What stands in the scratch between two phases, and what a phase leaves.
+-- Told between functions: what stands in the scratch between two phases, and what a phase leaves.
 use Prim.Native.Nat.{ℕ}
 use mathlib.Core.Path.{_≡_}
 use mathlib.Core.List.{List}
@@ -23,7 +23,8 @@ insideOf a rows places rng num x =
     (begun plusZero (λ p. a (getD places p 0)) (length places) rows (chosen x places) (axIn rows num) rng)
 
 -- that phase was made, and its coordinates are back at their places
-pub record PhasedAt (a : ℕ → ℕ → Float) (rows : ℕ) (places : List ℕ) (rng : ℕ) (num x : List Float) (free : List ℕ) (frozen rng' : ℕ) (num' x' : List Float) (free' : List ℕ) : Type 0 where
+pub record PhasedAt (a : ℕ → ℕ → Float) (rows : ℕ) (places : List ℕ) (rng : ℕ) (num x : List Float) (free : List ℕ)
+    (frozen rng' : ℕ) (num' x' : List Float) (free' : List ℕ) : Type 0 where
   pub froze : frozen ≡ insideOf a rows places rng num x .frozen
   pub moves : x' ≡ putBack plusZero places (insideOf a rows places rng num x .x) x (length places)
   pub marks : free' ≡ putBack 0 places (insideOf a rows places rng num x .free) free (length places)

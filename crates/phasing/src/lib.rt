@@ -13,7 +13,8 @@ ghost use Prim.Native.Nat.{_≤_};
 ghost use lib.ListN.{length};
 ghost use Rattle.seq.specs.Sums.{plusZero};
 ghost use Rattle.seq.specs.Indices.{Below};
-ghost use Rattle.entries.specs.Entries.{entryOf, Chosen};
+ghost use Rattle.entries.specs.Entries.{entryOf};
+ghost use Rattle.entries.specs.ChosenColumns.{Chosen};
 ghost use Rattle.freeze.specs.Held.{Roomy};
 ghost use Rattle.phasing.specs.Phase.{phased};
 ghost use Rattle.phasing.specs.Phasing.{between, PhasedAt};
@@ -42,9 +43,14 @@ fn phase_on(
     subfree: &mut [u32],
     g: &mut [f64],
 ) -> Phased
-    requires { ⌜ Chosen (now u) n (now cols) (now scale) (length (now blocked)) × Roomy (length (now cols)) (now num) (now blocked) (now x) (now free) 0 × Below (now places) (length (now cols)) × (length (now places) ≤ length (now cols)) ⌝ }
-    requires { ⌜ (length (now subcols) ≡ length (now places)) × (length (now subscale) ≡ length (now places)) × (length (now subx) ≡ length (now places)) × (length (now subfree) ≡ length (now places)) × (length (now g) ≡ length (now places)) ⌝ }
-    ensures { λ r. ⌜ PhasedAt (entryOf (now (u .entry)) n (now (cols .entry)) (now (scale .entry))) (length (now (blocked .entry))) (now (places .entry)) (rng .state) (now (num .entry)) (now (x .entry)) (now (free .entry)) (r .frozen) (r .rng .state) (now (num .exit)) (now (x .exit)) (now (free .exit)) ⌝ }
+    requires { ⌜ Chosen (now u) n (now cols) (now scale) (length (now blocked)) × Roomy (length (now cols)) (now num)
+        (now blocked) (now x) (now free) 0 × Below (now places) (length (now cols)) × (length (now places) ≤ length (now cols)) ⌝ }
+    requires { ⌜ (length (now subcols) ≡ length (now places)) × (length (now subscale) ≡ length (now places)) ×
+        (length (now subx) ≡ length (now places))
+        × (length (now subfree) ≡ length (now places)) × (length (now g) ≡ length (now places)) ⌝ }
+    ensures { λ r. ⌜ PhasedAt (entryOf (now (u .entry)) n (now (cols .entry)) (now (scale .entry)))
+        (length (now (blocked .entry))) (now (places .entry)) (rng .state) (now (num .entry)) (now (x .entry))
+        (now (free .entry)) (r .frozen) (r .rng .state) (now (num .exit)) (now (x .exit)) (now (free .exit)) ⌝ }
 {
     choose_words(&mut subcols[..], cols, places);
     choose(&mut subscale[..], scale, places);
@@ -88,9 +94,15 @@ pub fn next_phase(
     subfree: &mut [u32],
     g: &mut [f64],
 ) -> SplitMix64
-    requires { ⌜ Chosen (now u) n (now cols) (now scale) (length (now blocked)) × Roomy (length (now cols)) (now num) (now blocked) (now x) (now free) 0 ⌝ }
-    requires { ⌜ (length (now cols) ≤ length (now places)) × (length (now cols) ≤ length (now subcols)) × (length (now cols) ≤ length (now subscale)) × (length (now cols) ≤ length (now subx)) × (length (now cols) ≤ length (now subfree)) × (length (now cols) ≤ length (now g)) ⌝ }
-    ensures { λ r. ⌜ between (length (now (blocked .entry))) (now (num .exit)) (now (x .exit)) (now (free .exit)) (r .state) ≡ phased plusZero (entryOf (now (u .entry)) n (now (cols .entry)) (now (scale .entry))) (length (now (cols .entry))) (length (now (blocked .entry))) (between (length (now (blocked .entry))) (now (num .entry)) (now (x .entry)) (now (free .entry)) (rng .state)) ⌝ }
+    requires { ⌜ Chosen (now u) n (now cols) (now scale) (length (now blocked)) × Roomy (length (now cols)) (now num)
+        (now blocked) (now x) (now free) 0 ⌝ }
+    requires { ⌜ (length (now cols) ≤ length (now places)) × (length (now cols) ≤ length (now subcols)) ×
+        (length (now cols) ≤ length (now subscale))
+        × (length (now cols) ≤ length (now subx)) × (length (now cols) ≤ length (now subfree)) × (length (now cols) ≤ length (now g)) ⌝ }
+    ensures { λ r. ⌜ between (length (now (blocked .entry))) (now (num .exit)) (now (x .exit)) (now (free .exit))
+        (r .state) ≡ phased plusZero (entryOf (now (u .entry)) n (now (cols .entry)) (now (scale .entry)))
+        (length (now (cols .entry))) (length (now (blocked .entry)))
+        (between (length (now (blocked .entry))) (now (num .entry)) (now (x .entry)) (now (free .entry)) (rng .state)) ⌝ }
 {
     let l = free_places(&mut places[..], &free[..]);
     let p = phase_on(

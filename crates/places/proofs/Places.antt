@@ -53,11 +53,18 @@ module _ {A : Type 0} where
   abbrev pub back : A → (ℕ → Bool) → List A → List A → ℕ → List A
   back d f values v n = putBack d (keep f n) values v (length (keep f n))
 
-  back-kept : (d : A) (f : ℕ → Bool) (values v : List A) (n : ℕ) → f n ≡ true → back d f values v (suc n) ≡ set (back d f values v n) n (getD values (count f n) d)
+  back-kept : (d : A) (f : ℕ → Bool) (values v : List A) (n : ℕ) → f n ≡ true → back d f values v (suc n) ≡ set
+      (back d f values v n) n (getD values (count f n) d)
   unfolding putBack keep
   back-kept d f values v n e =
       let l : length (keep f n ++ (n ∷ [])) ≡ suc (length (keep f n)) = length-append (keep f n) (n ∷ []) ∙ omega arith in
-      rw (e, l, putBack-front d (keep f n) (n ∷ []) values v (length (keep f n)) (omega arith), getD-at (keep f n) n [] 0 (length (keep f n)) refl, length-keep f n)
+      rw (
+        e,
+        l,
+        putBack-front d (keep f n) (n ∷ []) values v (length (keep f n)) (omega arith),
+        getD-at (keep f n) n [] 0 (length (keep f n)) refl,
+        length-keep f n,
+      )
 
   back-skipped : (d : A) (f : ℕ → Bool) (values v : List A) (n : ℕ) → f n ≡ false → back d f values v (suc n) ≡ back d f values v n
   unfolding keep
@@ -76,7 +83,8 @@ module _ {A : Type 0} where
       go false e r = ap (λ l. getD l j z) (back-skipped d f values v n e) ∙ r
 
   -- a place that is kept holds its value
-  pub back-at : (d z : A) (f : ℕ → Bool) (values v : List A) (n j : ℕ) → j < n → j < length v → f j ≡ true → getD (back d f values v n) j z ≡ getD values (count f j) d
+  pub back-at : (d z : A) (f : ℕ → Bool) (values v : List A) (n j : ℕ) → j < n → j < length v → f j ≡ true → getD
+      (back d f values v n) j z ≡ getD values (count f j) d
   unfolding putBack keep
   back-at d z f values v zero j h l s = absurd (omega arith)
   back-at d z f values v (suc n) j h l s = go (f n) refl (decLt j n) (back-at d z f values v n j)

@@ -4,8 +4,8 @@ ghost use Prim.Native.Nat.{_≤_};
 ghost use lib.ListN.{length};
 ghost use Rattle.seq.specs.Lists.{tabulate};
 ghost use Rattle.seq.specs.Sums.{plusZero};
-ghost use Rattle.seq.specs.Keep.{keep, Pushed};
-ghost use Rattle.seq.specs.Indices.{Below};
+ghost use Rattle.seq.specs.Keep.{keep};
+ghost use Rattle.seq.specs.Indices.{Pushed, Below};
 ghost use Rattle.seq.specs.Marks.{isSet};
 ghost use Rattle.places.specs.Places.{wordsAt, chosen, putBack, roundedAt};
 
@@ -54,7 +54,8 @@ pub fn choose_words(to: &mut [u32], v: &[u32], places: &[u32])
 // The elements put back at their places.
 pub fn put_back(v: &mut [f64], places: &[u32], values: &[f64])
     requires { ⌜ (length (now values) ≡ length (now places)) × Below (now places) (length (now v)) ⌝ }
-    ensures { λ _. ⌜ now (v .exit) ≡ putBack plusZero (now (places .entry)) (now (values .entry)) (now (v .entry)) (length (now (places .entry))) ⌝ }
+    ensures { λ _. ⌜ now (v .exit) ≡ putBack plusZero (now (places .entry)) (now (values .entry)) (now (v .entry))
+        (length (now (places .entry))) ⌝ }
 {
     let mut p = 0usize;
     while p < places.len() {
@@ -66,7 +67,8 @@ pub fn put_back(v: &mut [f64], places: &[u32], values: &[f64])
 
 pub fn put_back_words(v: &mut [u32], places: &[u32], values: &[u32])
     requires { ⌜ (length (now values) ≡ length (now places)) × Below (now places) (length (now v)) ⌝ }
-    ensures { λ _. ⌜ now (v .exit) ≡ putBack 0 (now (places .entry)) (now (values .entry)) (now (v .entry)) (length (now (places .entry))) ⌝ }
+    ensures { λ _. ⌜ now (v .exit) ≡ putBack 0 (now (places .entry)) (now (values .entry)) (now (v .entry))
+        (length (now (places .entry))) ⌝ }
 {
     let mut p = 0usize;
     while p < places.len() {

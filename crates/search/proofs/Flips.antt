@@ -12,7 +12,7 @@ use Rattle.seq.specs.Lists.{tabulate}
 use Rattle.seq.specs.Sums.{at}
 use Rattle.linear.specs.Vectors.{maxAbsOf}
 use Rattle.ieee.specs.Magnitude.{maxAbsTo}
-use Rattle.columns.specs.Kernels.{lessAt}
+use Rattle.columns.specs.Kernels.{lessColumn}
 use Rattle.ieee.specs.Constants.{two}
 use Rattle.search.specs.Search.{improvement, Search, improves, flipped, sweepTo, sweptOf, searchTo, searched}
 use Rattle.search.specs.Searching.{searchOf, Tried, Swept}
@@ -21,13 +21,13 @@ use Rattle.search.specs.declared.Found.{Found}
 -- ---- one column
 
 module _ (column : ℕ → Float) (j : ℕ) (x ax : List Float) (from : Found) (below : Bool)
-    (is : below ≡ lt (maxAbsTo (lessAt column (mul binary64 two (at x j)) ax) (length ax)) (mul binary64 (from .best) improvement)) where
+    (is : below ≡ lt (maxAbsTo (lessColumn column (mul binary64 two (at x j)) ax) (length ax)) (mul binary64 (from .best) improvement)) where
   pub left-alone : below ≡ false → Tried column j (searchOf x ax from) (searchOf x ax from)
   unfolding improves
   left-alone e = record { is = rw (sym is ∙ e) }
 
   pub turned-over : (ax' : List Float) (best : Float) → below ≡ true
-      → ax' ≡ tabulate (lessAt column (mul binary64 two (at x j)) ax) (length ax) → best ≡ maxAbsOf ax'
+      → ax' ≡ tabulate (lessColumn column (mul binary64 two (at x j)) ax) (length ax) → best ≡ maxAbsOf ax'
       → Tried column j (searchOf x ax from) (searchOf (set x j (neg (at x j))) ax' (record { best = best; improved = true }))
   unfolding improves flipped
   turned-over ax' best e f g = record { is = rw (sym is ∙ e, g, f) }

@@ -1,4 +1,4 @@
--- What the pieces of local search leave.
+-- Told between functions: what the pieces of local search leave.
 use Prim.Native.Nat.{ℕ}
 use mathlib.Core.Path.{_≡_}
 use mathlib.Core.Bool.{false}

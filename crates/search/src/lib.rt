@@ -5,8 +5,9 @@ use linear::max_abs;
 ghost use mathlib.Core.Path.{_≡_};
 ghost use Prim.Native.Nat.{_<_};
 ghost use lib.ListN.{length};
-ghost use Rattle.search.specs.Search.{sweptOf, searched};
-ghost use Rattle.entries.specs.Entries.{entryOf, Chosen};
+ghost use Rattle.search.specs.Search.{searched};
+ghost use Rattle.entries.specs.Entries.{entryOf};
+ghost use Rattle.entries.specs.ChosenColumns.{Chosen};
 ghost use Rattle.search.specs.Searching.{Tried, Swept, searchOf};
 
 // The largest magnitude of A x, and whether a sweep has flipped a coordinate.
@@ -26,8 +27,10 @@ fn try_flip(
     cols: &[u32],
     scale: &[f64],
 ) -> Found
-    requires { ⌜ Chosen (now u) n (now cols) (now scale) (length (now ax)) × (length (now x) ≡ length (now cols)) × (j < length (now cols)) ⌝ }
-    ensures { λ r. ⌜ Tried (entryOf (now (u .entry)) n (now (cols .entry)) (now (scale .entry)) j) j (searchOf (now (x .entry)) (now (ax .entry)) from) (searchOf (now (x .exit)) (now (ax .exit)) r) ⌝ }
+    requires { ⌜ Chosen (now u) n (now cols) (now scale) (length (now ax)) × (length (now x) ≡ length (now cols)) ×
+        (j < length (now cols)) ⌝ }
+    ensures { λ r. ⌜ Tried (entryOf (now (u .entry)) n (now (cols .entry)) (now (scale .entry)) j) j
+        (searchOf (now (x .entry)) (now (ax .entry)) from) (searchOf (now (x .exit)) (now (ax .exit)) r) ⌝ }
 {
     let a = (cols[j] as usize) * n;
     let e = a + n;
@@ -55,7 +58,8 @@ fn sweep(
     scale: &[f64],
 ) -> Found
     requires { ⌜ Chosen (now u) n (now cols) (now scale) (length (now ax)) × (length (now x) ≡ length (now cols)) ⌝ }
-    ensures { λ r. ⌜ Swept (entryOf (now (u .entry)) n (now (cols .entry)) (now (scale .entry))) (length (now (cols .entry))) (now (x .entry)) (now (ax .entry)) best (searchOf (now (x .exit)) (now (ax .exit)) r) ⌝ }
+    ensures { λ r. ⌜ Swept (entryOf (now (u .entry)) n (now (cols .entry)) (now (scale .entry)))
+        (length (now (cols .entry))) (now (x .entry)) (now (ax .entry)) best (searchOf (now (x .exit)) (now (ax .exit)) r) ⌝ }
 {
     let mut at = Found {
         best,
@@ -73,7 +77,8 @@ fn sweep(
 // At most 100 sweeps: one that flips nothing is the last.
 pub fn local_search(ax: &mut [f64], x: &mut [f64], u: &[f64], n: usize, cols: &[u32], scale: &[f64])
     requires { ⌜ Chosen (now u) n (now cols) (now scale) (length (now ax)) × (length (now x) ≡ length (now cols)) ⌝ }
-    ensures { λ _. ⌜ now (x .exit) ≡ searched (entryOf (now (u .entry)) n (now (cols .entry)) (now (scale .entry))) (length (now (cols .entry))) (now (x .entry)) (now (ax .entry)) ⌝ }
+    ensures { λ _. ⌜ now (x .exit) ≡ searched (entryOf (now (u .entry)) n (now (cols .entry)) (now (scale .entry)))
+        (length (now (cols .entry))) (now (x .entry)) (now (ax .entry)) ⌝ }
 {
     let mut best = max_abs(&ax[..]);
     let mut k = 0usize;

@@ -1,4 +1,5 @@
--- Laws of `tabulate`, and of a loop that fills a list from the front: its invariant is `Filled`, and `start`, `turn` (or `skip`, which stores nothing) and `whole` are its steps.
+-- Laws of `tabulate`, and of a loop that fills a list from the front: its invariant is `Filled`, and `start`, `turn` (or `skip`, which stores nothing) and
+-- `whole` are its steps.
 use Prim.Native.Nat.{ℕ, zero, suc, _+_, _*_, _-_, _≤_, _<_}
 use mathlib.Core.Path.{_≡_, refl, sym, ap, _∙_}
 use mathlib.Core.List.{List, [], _∷_, _++_, append-nil}

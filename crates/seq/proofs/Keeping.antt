@@ -9,7 +9,8 @@ use native.Mathlib.Numerals.{add-one}
 use lib.ListN.{length, getD, set, length-set, length-append, List·getD-append}
 use lib.Seq.{take-suc-set, getD-at}
 use Rattle.seq.specs.Choice.{pick}
-use Rattle.seq.specs.Keep.{keep, count, Pushed}
+use Rattle.seq.specs.Keep.{keep, count}
+use Rattle.seq.specs.Indices.{Pushed}
 
 pub none : (v : List ℕ) → Pushed [] 0 v
 none v = record { within = omega arith; front = refl; long = refl }

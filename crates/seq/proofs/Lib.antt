@@ -3,6 +3,7 @@ pub mod Choosing
 pub mod Filling
 pub mod Parts
 pub mod Loops
+pub mod Marks
 pub mod Keeping
 pub mod Every
 pub mod Sorting

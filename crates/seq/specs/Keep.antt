@@ -1,9 +1,7 @@
 -- The indices that pass a test, in order, how many they are, and whether all do.
-use Prim.Native.Nat.{ℕ, zero, suc, _≤_}
-use mathlib.Core.Path.{_≡_}
+use Prim.Native.Nat.{ℕ, zero, suc}
 use mathlib.Core.Bool.{Bool, true, _&&_}
 use mathlib.Core.List.{List, [], _∷_, _++_}
-use lib.ListN.{length, take}
 use Rattle.seq.specs.Choice.{pick}
 
 -- of 0, .., k - 1 those that pass
@@ -20,9 +18,3 @@ count f (suc k) = let r : ℕ = count f k in pick (f k) (suc r) r
 unfoldable pub allTo : (ℕ → Bool) → ℕ → Bool
 allTo f zero = true
 allTo f (suc k) = allTo f k && f k
-
--- the first n elements of v are xs, and xs is n long
-pub record Pushed (xs : List ℕ) (n : ℕ) (v : List ℕ) : Type 0 where
-  pub within : n ≤ length v
-  pub front : take n v ≡ xs
-  pub long : length xs ≡ n

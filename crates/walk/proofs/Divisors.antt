@@ -11,6 +11,7 @@ use lib.Dec.{T, eqb}
 use lib.ListN.{length, getD}
 use lib.Ieee.{Float, nan, inf, fin, Format, binary64, add, sub, mul, le, eq, ofBits, fits, up, down, unlike, round}
 use lib.Ieee.Fits.{round-fits}
+use Rattle.seq.proofs.Choosing.{holds}
 use Rattle.seq.specs.Sums.{plusZero, sumFrom, sumTo, at, product}
 use Rattle.seq.proofs.Filling.{length-tab, getD-tab}
 use Rattle.ieee.specs.Flat.{isZero}
@@ -124,10 +125,6 @@ tolerance-size y p = rw tolerance-is (part-size 0x1B_7CDF_D9D7_BDBB (negsuc 85) 
 
 -- ---- what is not negative is no less than a zero
 
-holds : (b : Bool) → T b → b ≡ true
-holds true t = refl
-holds false t = absurd t
-
 zero-under : (x y : Float) → T (isZero x) → Size binary64 y → le x y ≡ true
 zero-under nan y z p = absurd z
 zero-under (inf s) y z p = absurd z
@@ -182,4 +179,5 @@ divisor basis v t = go (look (at v) (length v))
     go (none f) =
         not-zero (normOf plusZero (projected plusZero basis v))
         (λ o. neither (eq (normOf plusZero v) plusZero) (le (normOf plusZero (projected plusZero basis v)) (mul binary64 dropTolerance (normOf plusZero v))) t
-        (zero-under (normOf plusZero (projected plusZero basis v)) (mul binary64 dropTolerance (normOf plusZero v)) o (tolerance-size (normOf plusZero v) (norm-size v f))))
+        (zero-under (normOf plusZero (projected plusZero basis v)) (mul binary64 dropTolerance (normOf plusZero v)) o
+        (tolerance-size (normOf plusZero v) (norm-size v f))))

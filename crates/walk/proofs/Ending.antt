@@ -1,20 +1,21 @@
 -- A phase ends: each step that goes on freezes a coordinate, so the free ones become fewer, and more fuel changes nothing.
 use Prim.Native.Nat.{ℕ, zero, suc, _+_, _≤_, _<_}
 use mathlib.Core.Path.{_≡_, refl, sym, ap, _∙_}
-use mathlib.Core.Bool.{Bool, true, false, not, _&&_, _||_}
+use mathlib.Core.Bool.{Bool, true, false, not, _||_}
 use mathlib.Core.List.{List}
 use native.Mathlib.Omega.{arith}
-use native.Mathlib.Decide.{decLt}
-use borrow.Author.Tests.{ltb-true, lt-ltb, le-ltb, eqb-true}
+use borrow.Author.Tests.{ltb-true, lt-ltb, le-ltb}
 use lib.Dec.{ltb, eqb}
-use lib.ListN.{length, getD, set, length-set, List·getD-eq-default}
+use lib.ListN.{length, set, length-set}
 use lib.Seq.{getD-set-same, getD-set-other}
 use lib.Ieee.{Float}
 use lib.Ieee.Scale.{finite}
 use Rattle.seq.specs.Choice.{pick}
 use Rattle.seq.specs.Keep.{count}
 use Rattle.seq.specs.Until.{run}
+use Rattle.seq.proofs.Choosing.{both}
 use Rattle.seq.proofs.Keeping.{count-less}
+use Rattle.seq.proofs.Marks.{set-inside}
 use Rattle.seq.proofs.Loops.{stays, enough, turns}
 use Rattle.entries.specs.Rows.{times}
 use Rattle.seq.specs.Marks.{isSet}
@@ -25,13 +26,6 @@ use Rattle.walk.specs.Walk.{Stepped, drew, advanced, steppedAlong, stepO
 
 -- ---- a coordinate that freezes is one free one fewer
 
-set-inside : (free : List ℕ) (p : ℕ) → isSet free p ≡ true → p < length free
-set-inside free p e = go (decLt p (length free))
-  where
-    go : Dec (p < length free) → p < length free
-    go (yes h) = h
-    go (no h) = absurd (omega (arith, eqb-true (getD free p 0) 1 e, List·getD-eq-default free 0 {n = p} (omega arith)))
-
 pub free-less : (free : List ℕ) (p : ℕ) → isSet free p ≡ true → freeOnes free ≡ suc (freeOnes (set free p 0))
 free-less free p e =
     let l : p < length free = set-inside free p e in
@@ -39,32 +33,28 @@ free-less free p e =
     (λ i h. sym (ap (λ (v : ℕ). eqb v 1) (getD-set-other free p i 0 0 h))) l
     ∙ ap (λ (k : ℕ). suc (count (isSet (set free p 0)) k)) (sym (length-set free p 0))
 
-and-left : (s t : Bool) → (s && t) ≡ true → s ≡ true
-and-left true t e = refl
-and-left false t e = e
-
 module _ (z : Float) (a : ℕ → ℕ → Float) (l n : ℕ) where
   -- what freezes and what is free, together
-  abbrev pub both : Walk → ℕ
-  both w = w .frozen + freeOnes (w .free)
+  abbrev pub coordinates : Walk → ℕ
+  coordinates w = w .frozen + freeOnes (w .free)
 
-  pub frozen-sum : (w : Walk) (p : ℕ) → freezes w p ≡ true → both (frozenAt z a l n w p) ≡ both w
+  pub frozen-sum : (w : Walk) (p : ℕ) → freezes w p ≡ true → coordinates (frozenAt z a l n w p) ≡ coordinates w
   unfolding frozenAt
-  frozen-sum w p e = omega (arith, free-less (w .free) p (and-left (isSet (w .free) p) _ e))
+  frozen-sum w p e = omega (arith, free-less (w .free) p (both (isSet (w .free) p) _ e .0))
 
-  pub freeze-sum : (w : Walk) (k : ℕ) → both (freezeTo z a l n w k) ≡ both w
+  pub freeze-sum : (w : Walk) (k : ℕ) → coordinates (freezeTo z a l n w k) ≡ coordinates w
   unfolding freezeTo
   freeze-sum w zero = refl
   freeze-sum w (suc k) = go (freezes (freezeTo z a l n w k) k) refl (freeze-sum w k)
     where
-      go : (t : Bool) → freezes (freezeTo z a l n w k) k ≡ t → both (freezeTo z a l n w k) ≡ both w
-          → both (pick t (frozenAt z a l n (freezeTo z a l n w k) k) (freezeTo z a l n w k)) ≡ both w
+      go : (t : Bool) → freezes (freezeTo z a l n w k) k ≡ t → coordinates (freezeTo z a l n w k) ≡ coordinates w
+          → coordinates (pick t (frozenAt z a l n (freezeTo z a l n w k) k) (freezeTo z a l n w k)) ≡ coordinates w
       go true e h = frozen-sum (freezeTo z a l n w k) k e ∙ h
       go false e h = h
 
   -- a step keeps them together, and where it goes on more are frozen
   pub record Sound (w : Walk) (s : Stepped) : Type 0 where
-    pub together : both (s .walk) ≡ both w
+    pub together : coordinates (s .walk) ≡ coordinates w
     pub more-frozen : s .more ≡ true → w .frozen < s .walk .frozen
 
   none-sound : (w : Walk) → Sound w (record { more = false; walk = drew l w })
@@ -122,7 +112,8 @@ module _ (z : Float) (a : ℕ → ℕ → Float) (l n : ℕ) where
       go false e = absurd (omega (arith, falls s e))
   ends (suc k) s h = go (ended l s) refl (ends k (next s))
     where
-      go : (t : Bool) → ended l s ≡ t → (left (next s) ≤ k → ended l (run (ended l) next k (next s)) ≡ true) → ended l (pick t s (run (ended l) next k (next s))) ≡ true
+      go : (t : Bool) → ended l s ≡ t → (left (next s) ≤ k → ended l (run (ended l) next k (next s)) ≡ true) → ended l
+          (pick t s (run (ended l) next k (next s))) ≡ true
       go true e r = e
       go false e r = r (omega (arith, falls s e))
 
@@ -134,7 +125,8 @@ module _ (z : Float) (a : ℕ → ℕ → Float) (l n : ℕ) where
   pub phase-full : (w : Walk) → l ≤ length (w .basis) → phaseOf z a l n w ≡ w
   unfolding phaseOf
   phase-full w h =
-      ap (λ (s : Stepped). s .walk) (stays (ended l) next left falls (left (record { more = true; walk = w })) (record { more = true; walk = w }) (rw (le-ltb (length (w .basis)) l h)))
+      ap (λ (s : Stepped). s .walk) (stays (ended l) next left falls (left (record { more = true; walk = w }))
+      (record { more = true; walk = w }) (rw (le-ltb (length (w .basis)) l h)))
 
   stepped-path : (s : Stepped) (t : Bool) → s .more ≡ t → s ≡ record { more = t; walk = s .walk }
   stepped-path s t e = λ i. record { more = e i; walk = s .walk }

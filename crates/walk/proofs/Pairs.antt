@@ -54,7 +54,8 @@ pick-both R {t} {t'} {x} {x'} {y} {y'} e p q = subst (λ (u : Bool). R (pick t x
     go false p = q
 
 -- steps that keep a relation which the test cannot see
-module _ {S : Type 0} (R : S → S → Type 0) (done : S → Bool) (f g : S → S) (ends : (s t : S) → R s t → done s ≡ done t) (goes : (s t : S) → R s t → R (f s) (g t)) where
+module _ {S : Type 0} (R : S → S → Type 0) (done : S → Bool) (f g : S → S) (ends : (s t : S) → R s t → done s ≡ done t)
+    (goes : (s t : S) → R s t → R (f s) (g t)) where
   run-along : (k : ℕ) (s t : S) → R s t → R (run done f k s) (run done g k t)
   unfolding run
   run-along zero s t r = r

@@ -26,7 +26,7 @@ use Rattle.walk.specs.Walking.{StepHolds}
 use Rattle.walk.specs.declared.Went.{Went}
 use Rattle.freeze.proofs.Scratch.{walk-path}
 use Rattle.freeze.proofs.Freezing.{freeze-most, count-most}
-use Rattle.walk.proofs.Ending.{both, step-sound, phase-full, phase-on, phase-last}
+use Rattle.walk.proofs.Ending.{coordinates, step-sound, phase-full, phase-on, phase-last}
 use Rattle.seq.proofs.Keeping.{count-short}
 
 -- a step keeps the basis within l
@@ -109,7 +109,7 @@ module _ (a : ℕ → ℕ → Float) (l : ℕ) (num₀ : List Float) (blocked₀
           here .walk ∙ sym (phase-last plusZero a l n now-at (omega (arith, counted)) (sym (here .more) ∙ e)) ∙ i .same
 
       together : s .at .frozen + freeOnes free' ≡ frozen + freeOnes free
-      together = ap (both plusZero a l n) (here .walk) ∙ step-sound plusZero a l n now-at .together
+      together = ap (coordinates plusZero a l n) (here .walk) ∙ step-sound plusZero a l n now-at .together
 
       pub fewer-free : s .more ≡ true → freeOnes free' < freeOnes free
       fewer-free e =
@@ -145,8 +145,10 @@ unfolding blockTo
 block-most z a l rows zero = omega arith
 block-most z a l rows (suc k) = inserted-most z l (blockTo z a l rows k) (rowOf a l (getD rows k 0)) (block-most z a l rows k)
 
-module _ (a : ℕ → ℕ → Float) (l : ℕ) (num : List Float) (blocked : List ℕ) (x : List Float) (free : List ℕ) (num' : List Float) (blocked' free' : List ℕ) (count : ℕ)
-    (room : Roomy l num blocked x free 0) (b : Begun a l num (length blocked) count num' blocked') (ln : length num' ≡ length num) (lb : length blocked' ≡ length blocked)
+module _ (a : ℕ → ℕ → Float) (l : ℕ) (num : List Float) (blocked : List ℕ) (x : List Float) (free : List ℕ) (num' : List Float)
+    (blocked' free' : List ℕ) (count : ℕ)
+    (room : Roomy l num blocked x free 0) (b : Begun a l num (length blocked) count num' blocked') (ln : length num' ≡ length num)
+    (lb : length blocked' ≡ length blocked)
     (ef : free' ≡ repeated 1 (length free)) where
   abbrev rows-of : ℕ
   rows-of = length blocked

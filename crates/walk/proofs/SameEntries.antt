@@ -114,11 +114,13 @@ module _ (z : Float) (a b : ℕ → ℕ → Float) (l n : ℕ) (same : (p i : �
   unfolding firstRows sorted
   none-first ax e = rw (e, take-nil (l / 4))
 
-  basis-same : (ax : List Float) → blockTo z a l (firstRows z b l n ax) (length (firstRows z b l n ax)) ≡ blockTo z b l (firstRows z b l n ax) (length (firstRows z b l n ax))
+  basis-same : (ax : List Float) → blockTo z a l (firstRows z b l n ax) (length (firstRows z b l n ax)) ≡ blockTo z b l
+      (firstRows z b l n ax) (length (firstRows z b l n ax))
   unfolding blockTo
   basis-same ax = go (decLt 0 n)
     where
-      go : Dec (0 < n) → blockTo z a l (firstRows z b l n ax) (length (firstRows z b l n ax)) ≡ blockTo z b l (firstRows z b l n ax) (length (firstRows z b l n ax))
+      go : Dec (0 < n) → blockTo z a l (firstRows z b l n ax) (length (firstRows z b l n ax)) ≡ blockTo z b l
+          (firstRows z b l n ax) (length (firstRows z b l n ax))
       go (yes h) = block-same (firstRows z b l n ax) (λ k. rw (first-same ax) at (first-below ax h k)) (length (firstRows z b l n ax))
       go (no h) = rw (none-first ax (omega arith))
 

@@ -13,7 +13,8 @@ use Rattle.seq.specs.Sort.{sorted}
 use Rattle.ieee.specs.Flat.{flat, Alike, isZero}
 use Rattle.ieee.specs.Magnitude.{absOf}
 use Rattle.ieee.proofs.Signs.{nought}
-use Rattle.ieee.proofs.Alikes.{alike-refl, alike-of-eq, add-alike, sub-alike, mul-alike, div-alike, neg-alike, abs-alike, zero-alike, lt-alike, le-alike, eq-alike, pick-alike, smaller-alike, clamp-alike, above-alike, sum-alike}
+use Rattle.ieee.proofs.Alikes.{alike-refl, alike-of-eq, add-alike, sub-alike, mul-alike, div-alike, neg-alike, abs-alike, zero-alike}
+use Rattle.ieee.proofs.Alikes.{lt-alike, le-alike, eq-alike, pick-alike, smaller-alike, clamp-alike, above-alike, sum-alike}
 use Rattle.ieee.proofs.Equality.{signum-alike}
 use Rattle.root.proofs.RootResults.{sqrt-alike}
 use Rattle.linear.specs.Vectors.{dotOf, normOf}
@@ -117,7 +118,9 @@ module _ {x x' g g' : List Float} (px : AlikeList x x') (pg : AlikeList g g') {f
   unfolding moved
   moved-alike {t} {t'} p =
       each-tabs (movedAt t x g free) (movedAt t' x' g' free') (each-length px)
-      (λ i. pick-alike {t = isSet free i} {t' = isSet free' i} (rw pf) (clamp-alike (add-alike binary64 (at-alike px i) (mul-alike binary64 p (at-alike pg i))) (alike-refl minusOne) (alike-refl one)) (at-alike px i))
+      (λ i. pick-alike {t = isSet free i} {t' = isSet free' i} (rw pf) (clamp-alike
+      (add-alike binary64 (at-alike px i) (mul-alike binary64 p (at-alike pg i))) (alike-refl minusOne)
+      (alike-refl one)) (at-alike px i))
 
 along-alike : {ax ax' ag ag' : List Float} {t t' : Float} → AlikeList ax ax' → AlikeList ag ag' → Alike t t' → AlikeList (along t ax ag) (along t' ax' ag')
 unfolding along
@@ -127,7 +130,8 @@ along-alike {ax} {ax'} {ag} {ag'} {t} {t'} q r p =
 zeroed-alike : {g g' : List Float} {free free' : List ℕ} → free ≡ free' → AlikeList g g' → AlikeList (zeroed free g) (zeroed free' g')
 unfolding zeroed
 zeroed-alike {g} {g'} {free} {free'} e p =
-    each-tabs (zeroedAt free g) (zeroedAt free' g') (each-length p) (λ i. pick-alike {t = isSet free i} {t' = isSet free' i} (rw e) (at-alike p i) (alike-refl plusZero))
+    each-tabs (zeroedAt free g) (zeroedAt free' g') (each-length p)
+    (λ i. pick-alike {t = isSet free i} {t' = isSet free' i} (rw e) (at-alike p i) (alike-refl plusZero))
 
 turned-alike : {v v' : List Float} {t t' : Bool} → t ≡ t' → AlikeList v v' → AlikeList (turned t v) (turned t' v')
 unfolding turned
@@ -140,7 +144,12 @@ drawn-alike {rng} {rng'} e l = rw e (same-list (drawn rng' l))
 comes-same : {ax ax' norms norms' : List Float} → AlikeList ax ax' → AlikeList norms norms' → (x y : ℕ) → comesFirst ax norms x y ≡ comesFirst ax' norms' x y
 unfolding comesFirst
 comes-same p q x y =
-    rw (above-alike (at-alike p x) (at-alike p y), above-alike (at-alike p y) (at-alike p x), above-alike (at-alike q x) (at-alike q y), above-alike (at-alike q y) (at-alike q x))
+    rw (
+      above-alike (at-alike p x) (at-alike p y),
+      above-alike (at-alike p y) (at-alike p x),
+      above-alike (at-alike q x) (at-alike q y),
+      above-alike (at-alike q y) (at-alike q x),
+    )
 
 worst-same : {ax ax' : List Float} (blocked : List ℕ) (rows : ℕ) → AlikeList ax ax' → (k : ℕ) → worstTo ax blocked rows k ≡ worstTo ax' blocked rows k
 unfolding worstTo
@@ -172,19 +181,24 @@ module _ (z : Float) (start : Alike z plusZero) where
       each-tabs (lessAt (dotOf z q v) q v) (lessAt (dotOf plusZero q' v') q' v') (each-length r)
       (λ i. sub-alike binary64 (at-alike r i) (mul-alike binary64 (dot-alike p r) (at-alike p i)))
 
-  pass-alike : {basis basis' : List (List Float)} {v v' : List Float} → AlikeBasis basis basis' → AlikeList v v' → (k : ℕ) → AlikeList (passTo z basis v k) (passTo plusZero basis' v' k)
+  pass-alike : {basis basis' : List (List Float)} {v v' : List Float} → AlikeBasis basis basis' → AlikeList v v' → (k : ℕ) → AlikeList
+      (passTo z basis v k) (passTo plusZero basis' v' k)
   unfolding passTo
   pass-alike p q zero = q
   pass-alike p q (suc k) = stripped-alike (each-at [] none p k) (pass-alike p q k)
 
-  projected-alike : {basis basis' : List (List Float)} {v v' : List Float} → AlikeBasis basis basis' → AlikeList v v' → AlikeList (projected z basis v) (projected plusZero basis' v')
+  projected-alike : {basis basis' : List (List Float)} {v v' : List Float} → AlikeBasis basis basis' → AlikeList v v' → AlikeList
+      (projected z basis v) (projected plusZero basis' v')
   unfolding projected
   projected-alike {basis} {basis'} p q = rw (each-length p) (pass-alike p (pass-alike p q (length basis')) (length basis'))
 
   taken-same : {basis basis' : List (List Float)} {v v' : List Float} → AlikeBasis basis basis' → AlikeList v v' → taken z basis v ≡ taken plusZero basis' v'
   unfolding taken
   taken-same p q =
-      rw (eq-alike (norm-alike q) (alike-refl plusZero), le-alike (norm-alike (projected-alike p q)) (mul-alike binary64 (alike-refl dropTolerance) (norm-alike q)))
+      rw (
+        eq-alike (norm-alike q) (alike-refl plusZero),
+        le-alike (norm-alike (projected-alike p q)) (mul-alike binary64 (alike-refl dropTolerance) (norm-alike q)),
+      )
 
   unit-alike : {v v' : List Float} → AlikeList v v' → T (not (isZero (normOf plusZero v'))) → AlikeList (unit z v) (unit plusZero v')
   unfolding unit
@@ -192,12 +206,14 @@ module _ (z : Float) (start : Alike z plusZero) where
       let g : T (not (isZero (normOf z v))) = subst (λ (b : Bool). T (not b)) (sym (zero-alike (norm-alike p))) h in
       each-tabs (overAt (normOf z v) v) (overAt (normOf plusZero v') v') (each-length p) (λ i. div-alike binary64 (at-alike p i) (norm-alike p) g)
 
-  inserted-alike : {basis basis' : List (List Float)} {v v' : List Float} (l : ℕ) → AlikeBasis basis basis' → AlikeList v v' → AlikeBasis (inserted z l basis v) (inserted plusZero l basis' v')
+  inserted-alike : {basis basis' : List (List Float)} {v v' : List Float} (l : ℕ) → AlikeBasis basis basis' → AlikeList v v' → AlikeBasis
+      (inserted z l basis v) (inserted plusZero l basis' v')
   unfolding inserted
   inserted-alike {basis} {basis'} {v} {v'} l p q =
       let e : (ltb (length basis) l && taken z basis v) ≡ (ltb (length basis') l && taken plusZero basis' v') = rw (each-length p, taken-same p q) in
       pick-both AlikeBasis e
-      (λ t. each-join p (more (unit-alike (projected-alike p q) (divisor basis' v' (and-second (ltb (length basis') l) (taken plusZero basis' v') (sym e ∙ t)))) none))
+      (λ t. each-join p (more (unit-alike (projected-alike p q)
+      (divisor basis' v' (and-second (ltb (length basis') l) (taken plusZero basis' v') (sym e ∙ t)))) none))
       p
 
   directed-alike : {basis basis' : List (List Float)} {free free' : List ℕ} {d d' : List Float} → AlikeBasis basis basis' → free ≡ free' → AlikeList d d'
@@ -217,12 +233,14 @@ module _ (z : Float) (start : Alike z plusZero) where
     norms-alike : AlikeList (rowNorms z a l n) (rowNorms plusZero a l n)
     norms-alike =
         each-tab (rowNorm z a l) (rowNorm plusZero a l) n
-        (λ i. sum-alike binary64 (λ p. mul binary64 (a p i) (a p i)) (λ p. mul binary64 (a p i) (a p i)) l start (λ p h. alike-refl (mul binary64 (a p i) (a p i))))
+        (λ i. sum-alike binary64 (λ p. mul binary64 (a p i) (a p i)) (λ p. mul binary64 (a p i) (a p i)) l start
+        (λ p h. alike-refl (mul binary64 (a p i) (a p i))))
 
     times-alike : {g g' : List Float} → AlikeList g g' → AlikeList (times z a l n g) (times plusZero a l n g')
     times-alike {g} {g'} r =
         each-tab (timesAt z a g l) (timesAt plusZero a g' l) n
-        (λ i. sum-alike binary64 (λ p. mul binary64 (a p i) (at g p)) (λ p. mul binary64 (a p i) (at g' p)) l start (λ p h. mul-alike binary64 (alike-refl (a p i)) (at-alike r p)))
+        (λ i. sum-alike binary64 (λ p. mul binary64 (a p i) (at g p)) (λ p. mul binary64 (a p i) (at g' p)) l start
+        (λ p h. mul-alike binary64 (alike-refl (a p i)) (at-alike r p)))
 
     first-same : {ax ax' : List Float} → AlikeList ax ax' → firstRows z a l n ax ≡ firstRows plusZero a l n ax'
     unfolding firstRows
@@ -236,7 +254,8 @@ module _ (z : Float) (start : Alike z plusZero) where
     block-alike rows zero = none
     block-alike rows (suc k) = blocking-alike (getD rows k 0) (block-alike rows k)
 
-    pub begun-alike : {x x' ax ax' : List Float} (rng : ℕ) → AlikeList x x' → AlikeList ax ax' → AlikeWalk (begun z a l n x ax rng) (begun plusZero a l n x' ax' rng)
+    pub begun-alike : {x x' ax ax' : List Float} (rng : ℕ) → AlikeList x x' → AlikeList ax ax' → AlikeWalk
+        (begun z a l n x ax rng) (begun plusZero a l n x' ax' rng)
     unfolding begun
     begun-alike {x} {x'} {ax} {ax'} rng p q =
         let rows : List ℕ = firstRows plusZero a l n ax' in
@@ -261,7 +280,8 @@ module _ (z : Float) (start : Alike z plusZero) where
         let e : row ≡ row' = rw (r .blocked) (worst-same (w' .blocked) n (r .ax) n) in
         let room : (ltb row n && ltb (length basis) l) ≡ (ltb row' n && ltb (length basis') l) = rw (e, each-length b) in
         record {
-          x = each-set (r .x) p (alike-of-eq (signum-alike (at-alike (r .x) p) (near-nonzero (at (w .x) p) (and-second (isSet (w .free) p) (le freezeLimit (absOf (at (w .x) p))) t))));
+          x = each-set (r .x) p (alike-of-eq (signum-alike (at-alike (r .x) p)
+              (near-nonzero (at (w .x) p) (and-second (isSet (w .free) p) (le freezeLimit (absOf (at (w .x) p))) t))));
           free = ap (λ (free : List ℕ). set free p 0) (r .free);
           frozen = ap (λ (k : ℕ). k + 1) (r .frozen);
           ax = r .ax;
@@ -275,7 +295,8 @@ module _ (z : Float) (start : Alike z plusZero) where
     freeze-alike r zero = r
     freeze-alike r (suc k) = pick-both AlikeWalk (freezes-same (freeze-alike r k) k) (λ t. frozen-alike (freeze-alike r k) k t) (freeze-alike r k)
 
-    along-step : {w w' : Walk} {g g' : List Float} → AlikeWalk w w' → AlikeList g g' → AlikeStepped (steppedAlong z a l n w g) (steppedAlong plusZero a l n w' g')
+    along-step : {w w' : Walk} {g g' : List Float} → AlikeWalk w w' → AlikeList g g' → AlikeStepped (steppedAlong z a l n w g)
+        (steppedAlong plusZero a l n w' g')
     unfolding steppedAlong
     along-step {w} {w'} {g} {g'} r q =
         let ag : AlikeList (times z a l n g) (times plusZero a l n g') = times-alike q in
@@ -298,13 +319,15 @@ module _ (z : Float) (start : Alike z plusZero) where
           rng = ap (λ (m : ℕ). afterDraws m l) (r .rng);
         } in
         let f : AlikeWalk (freezeTo z a l n v l) (freezeTo plusZero a l n v' l) = freeze-alike there l in
-        pick-both AlikeStepped (finite-alike p) (λ _. record { more = (λ i. ltb (r .frozen i) (f .frozen i)); walk = f }) (record { more = refl; walk = drew-alike l r })
+        pick-both AlikeStepped (finite-alike p) (λ _. record { more = (λ i. ltb (r .frozen i) (f .frozen i)); walk = f })
+        (record { more = refl; walk = drew-alike l r })
 
     step-alike : {w w' : Walk} → AlikeWalk w w' → AlikeStepped (stepOf z a l n w) (stepOf plusZero a l n w')
     unfolding stepOf
     step-alike {w} {w'} r =
         let d : AlikeList (drawn (w .rng) l) (drawn (w' .rng) l) = drawn-alike (r .rng) l in
-        let g : AlikeList (directed z (w .basis) (w .free) (drawn (w .rng) l)) (directed plusZero (w' .basis) (w' .free) (drawn (w' .rng) l)) = directed-alike (r .basis) (r .free) d in
+        let g : AlikeList (directed z (w .basis) (w .free) (drawn (w .rng) l))
+        (directed plusZero (w' .basis) (w' .free) (drawn (w' .rng) l)) = directed-alike (r .basis) (r .free) d in
         pick-both AlikeStepped (short-same d g) (λ _. record { more = refl; walk = drew-alike l r }) (along-step r g)
 
     ended-same : (s s' : Stepped) → AlikeStepped s s' → ended l s ≡ ended l s'
@@ -314,4 +337,5 @@ module _ (z : Float) (start : Alike z plusZero) where
     unfolding phaseOf
     phase-alike {w} {w'} r =
         run-both AlikeStepped (ended l) (λ s. stepOf z a l n (s .walk)) (λ s. stepOf plusZero a l n (s .walk)) ended-same (λ s s' q. step-alike (q .walk))
-        (ap (λ (free : List ℕ). suc (freeOnes free)) (r .free)) (record { more = true; walk = w }) (record { more = true; walk = w' }) (record { more = refl; walk = r }) .walk
+        (ap (λ (free : List ℕ). suc (freeOnes free)) (r .free)) (record { more = true; walk = w })
+        (record { more = true; walk = w' }) (record { more = refl; walk = r }) .walk

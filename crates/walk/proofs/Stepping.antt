@@ -39,7 +39,8 @@ pub vectors-room : (l : ℕ) (num : List Float) (blocked : List ℕ) (x : List F
 vectors-room l num blocked x free count r = omega (arith, mul-le-mul-right l (r .most), r .room)
 
 -- k is as long as the count vectors; the draws are g1, what is left of them g2, and s says that this is too little
-module _ (a : ℕ → ℕ → Float) (l : ℕ) (num : List Float) (blocked : List ℕ) (x : List Float) (free : List ℕ) (count frozen rng k : ℕ) (g g1 g2 : List Float) (s : Bool)
+module _ (a : ℕ → ℕ → Float) (l : ℕ) (num : List Float) (blocked : List ℕ) (x : List Float) (free : List ℕ)
+    (count frozen rng k : ℕ) (g g1 g2 : List Float) (s : Bool)
     (room : Roomy l num blocked x free count) (ek : k ≡ count * l) (lg : length g ≡ l) (eg : g1 ≡ drawn rng (length g))
     (e2 : g2 ≡ directed plusZero (vectorsIn l count (part (length blocked + length blocked + length blocked) k num)) free g1)
     (es : s ≡ tooShort plusZero g1 (directed plusZero (vectorsIn l count (part (length blocked + length blocked + length blocked) k num)) free g1)) where
@@ -133,7 +134,8 @@ module _ (a : ℕ → ℕ → Float) (l : ℕ) (num : List Float) (blocked : Lis
         ∙ ap₂ (λ (j : ℕ) (v : List Float). along (reachOf j v) (axIn n num) (turned (upOf j v) (times plusZero a j n v))) way-long way-is in
         let moved-is : held num1 blocked x1 free count frozen rng' ≡ next =
         walk-path ex refl refl ea refl (same-basis lx count refl) (er ∙ ap (afterDraws rng) lg) in
-        let frozen-is : held num' blocked' x' free' c f rng' ≡ freezeTo plusZero a l n next l = h rng' ∙ ap (λ (v : Walk). freezeTo plusZero a l n v l) moved-is in
+        let frozen-is : held num' blocked' x' free' c f rng' ≡ freezeTo plusZero a l n next l = h rng' ∙ ap
+        (λ (v : Walk). freezeTo plusZero a l n v l) moved-is in
         record {
           more = rw (long-way, t) (em ∙ ap (λ (v : Walk). ltb frozen (v .frozen)) frozen-is);
           walk = rw (long-way, t) (ap₂ (λ (i j : ℕ). held num' blocked' x' free' i j rng') ec ef ∙ frozen-is);

@@ -1,4 +1,4 @@
--- What a step leaves in the scratch.
+-- Told between functions: what a step leaves in the scratch.
 use Prim.Native.Nat.{ℕ}
 use mathlib.Core.Path.{_≡_}
 use mathlib.Core.List.{List}

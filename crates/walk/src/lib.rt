@@ -13,7 +13,8 @@ ghost use lib.ListN.{length};
 ghost use Rattle.seq.specs.Sums.{plusZero};
 ghost use Rattle.begin.specs.Begin.{begun};
 ghost use Rattle.walk.specs.Walk.{stepOf, phaseOf};
-ghost use Rattle.entries.specs.Entries.{entryOf, Chosen};
+ghost use Rattle.entries.specs.Entries.{entryOf};
+ghost use Rattle.entries.specs.ChosenColumns.{Chosen};
 ghost use Rattle.freeze.specs.Held.{axIn, held, Roomy};
 ghost use Rattle.walk.specs.Walking.{StepHolds};
 
@@ -43,8 +44,13 @@ fn step(
     from: Stand,
     g: &mut [f64],
 ) -> Went
-    requires { ⌜ Chosen (now u) n (now cols) (now scale) (length (now blocked)) × Roomy (length (now cols)) (now num) (now blocked) (now x) (now free) (from .count) × (length (now g) ≡ length (now cols)) × (from .frozen ≤ 256) ⌝ }
-    ensures { λ r. ⌜ StepHolds (now (num .exit)) (now (blocked .exit)) (now (x .exit)) (now (free .exit)) r (stepOf plusZero (entryOf (now (u .entry)) n (now (cols .entry)) (now (scale .entry))) (length (now (cols .entry))) (length (now (blocked .entry))) (held (now (num .entry)) (now (blocked .entry)) (now (x .entry)) (now (free .entry)) (from .count) (from .frozen) (from .rng .state))) ⌝ }
+    requires { ⌜ Chosen (now u) n (now cols) (now scale) (length (now blocked)) × Roomy (length (now cols)) (now num)
+        (now blocked) (now x) (now free) (from .count) × (length (now g) ≡ length (now cols)) × (from .frozen ≤ 256) ⌝ }
+    ensures { λ r. ⌜ StepHolds (now (num .exit)) (now (blocked .exit)) (now (x .exit)) (now (free .exit)) r
+        (stepOf plusZero (entryOf (now (u .entry)) n (now (cols .entry)) (now (scale .entry)))
+        (length (now (cols .entry))) (length (now (blocked .entry)))
+        (held (now (num .entry)) (now (blocked .entry)) (now (x .entry)) (now (free .entry)) (from .count)
+        (from .frozen) (from .rng .state))) ⌝ }
 {
     let l = cols.len();
     let rows = blocked.len();
@@ -100,8 +106,13 @@ fn steps(
     from: Stand,
     g: &mut [f64],
 ) -> Stand
-    requires { ⌜ Chosen (now u) n (now cols) (now scale) (length (now blocked)) × Roomy (length (now cols)) (now num) (now blocked) (now x) (now free) (from .count) × (length (now g) ≡ length (now cols)) × (from .frozen ≡ 0) ⌝ }
-    ensures { λ r. ⌜ held (now (num .exit)) (now (blocked .exit)) (now (x .exit)) (now (free .exit)) (r .count) (r .frozen) (r .rng .state) ≡ phaseOf plusZero (entryOf (now (u .entry)) n (now (cols .entry)) (now (scale .entry))) (length (now (cols .entry))) (length (now (blocked .entry))) (held (now (num .entry)) (now (blocked .entry)) (now (x .entry)) (now (free .entry)) (from .count) (from .frozen) (from .rng .state)) ⌝ }
+    requires { ⌜ Chosen (now u) n (now cols) (now scale) (length (now blocked)) × Roomy (length (now cols)) (now num)
+        (now blocked) (now x) (now free) (from .count) × (length (now g) ≡ length (now cols)) × (from .frozen ≡ 0) ⌝ }
+    ensures { λ r. ⌜ held (now (num .exit)) (now (blocked .exit)) (now (x .exit)) (now (free .exit)) (r .count)
+        (r .frozen) (r .rng .state) ≡ phaseOf plusZero
+        (entryOf (now (u .entry)) n (now (cols .entry)) (now (scale .entry))) (length (now (cols .entry)))
+        (length (now (blocked .entry))) (held (now (num .entry)) (now (blocked .entry)) (now (x .entry))
+        (now (free .entry)) (from .count) (from .frozen) (from .rng .state)) ⌝ }
 {
     let mut at = from;
     while at.count < cols.len() {
@@ -128,8 +139,15 @@ pub fn phase(
     rng: SplitMix64,
     g: &mut [f64],
 ) -> Stand
-    requires { ⌜ Chosen (now u) n (now cols) (now scale) (length (now blocked)) × Roomy (length (now cols)) (now num) (now blocked) (now x) (now free) 0 × (length (now g) ≡ length (now cols)) ⌝ }
-    ensures { λ r. ⌜ held (now (num .exit)) (now (blocked .exit)) (now (x .exit)) (now (free .exit)) (r .count) (r .frozen) (r .rng .state) ≡ phaseOf plusZero (entryOf (now (u .entry)) n (now (cols .entry)) (now (scale .entry))) (length (now (cols .entry))) (length (now (blocked .entry))) (begun plusZero (entryOf (now (u .entry)) n (now (cols .entry)) (now (scale .entry))) (length (now (cols .entry))) (length (now (blocked .entry))) (now (x .entry)) (axIn (length (now (blocked .entry))) (now (num .entry))) (rng .state)) ⌝ }
+    requires { ⌜ Chosen (now u) n (now cols) (now scale) (length (now blocked)) × Roomy (length (now cols)) (now num)
+        (now blocked) (now x) (now free) 0 × (length (now g) ≡ length (now cols)) ⌝ }
+    ensures { λ r. ⌜ held (now (num .exit)) (now (blocked .exit)) (now (x .exit)) (now (free .exit)) (r .count)
+        (r .frozen) (r .rng .state) ≡ phaseOf plusZero
+        (entryOf (now (u .entry)) n (now (cols .entry)) (now (scale .entry))) (length (now (cols .entry)))
+        (length (now (blocked .entry))) (begun plusZero
+        (entryOf (now (u .entry)) n (now (cols .entry)) (now (scale .entry))) (length (now (cols .entry)))
+        (length (now (blocked .entry))) (now (x .entry)) (axIn (length (now (blocked .entry))) (now (num .entry)))
+        (rng .state)) ⌝ }
 {
     fill_words(&mut free[..], 1);
     let count = begin(num, blocked, u, n, cols, scale, &mut g[..]);

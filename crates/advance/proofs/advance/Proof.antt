@@ -29,13 +29,16 @@ same-length-3 c = search needs
 
 returns : tie.Need-returns
 returns c =
-    let c2 = c .before .before in
-    let c9 = c2 .before .before .before .before .before .before .before in
-    let c19 = c9 .before .before .before .before .before .before .before .before .before .before in
-    let a = c19 .args in
-    let p = c19 .pre in
-    no-way (entryOf (a .u .now) (a .n) (a .cols .now) (a .scale .now)) (a .rows) (a .num .now) (a .x .now) (a .free .now) (a .g .now) (c9 .turn-downhill .last .0) (c9 .turn-downhill .last .1 .1 .1 .1 .1 .1 .0) (c2 .reach .result)
-    (c9 .turn-downhill .ensures) (p .1 ∙ sym (p .2)) (c2 .reach .ensures) (c .before .is-finite .result) (c .before .is-finite .ensures) (not-true _ (c .if1 .taken))
+    let at-reach = c .before .before in
+    let at-turn-downhill = at-reach .before .before .before .before .before .before .before in
+    let at-start = at-turn-downhill .before .before .before .before .before .before .before .before .before .before in
+    let a = at-start .args in
+    let p = at-start .pre in
+    no-way (entryOf (a .u .now) (a .n) (a .cols .now) (a .scale .now)) (a .rows) (a .num .now) (a .x .now) (a .free .now)
+    (a .g .now) (at-turn-downhill .turn-downhill .last .0) (at-turn-downhill .turn-downhill .last .1 .1 .1 .1 .1 .1 .0)
+    (at-reach .reach .result)
+    (at-turn-downhill .turn-downhill .ensures) (p .1 ∙ sym (p .2)) (at-reach .reach .ensures) (c .before .is-finite .result)
+    (c .before .is-finite .ensures) (not-true _ (c .if1 .taken))
 
 move-free-requires : tie.Need-move-free-requires
 move-free-requires c κs = search needs
@@ -66,18 +69,22 @@ same-length-6 c = search needs
 
 returns-2 : tie.Need-returns-2
 returns-2 c =
-    let c2 = c .before .before in
-    let c6 = c2 .before .before .before .before in
-    let c9 = c6 .before .before .before in
-    let c10 = c9 .before in
-    let c11 = c10 .before in
-    let c18 = c11 .before .before .before .before .before .before .before in
-    let c28 = c18 .before .before .before .before .before .before .before .before .before .before in
-    let a = c28 .args in
-    let p = c28 .pre in
-    goes-along (entryOf (a .u .now) (a .n) (a .cols .now) (a .scale .now)) (a .rows) (a .num .now) (a .x .now) (a .free .now) (a .g .now) (c18 .turn-downhill .last .0) (c18 .turn-downhill .last .1 .1 .1 .1 .1 .1 .0) (c11 .reach .result)
-    (c18 .turn-downhill .ensures) (p .1 ∙ sym (p .2)) (c11 .reach .ensures) (c10 .is-finite .result) (a .rows + a .rows - 0) (c2 .move-rows .last .0) (c6 .move-free .last .0) (c10 .is-finite .ensures) (not-false _ (c9 .if1 .left))
-    (omega arith) (omega (arith, c18 .turn-downhill .kept .0, p .4)) (c6 .move-free .ensures) (c2 .move-rows .ensures)
+    let at-move-rows = c .before .before in
+    let at-move-free = at-move-rows .before .before .before .before in
+    let at-if1 = at-move-free .before .before .before in
+    let at-is-finite = at-if1 .before in
+    let at-reach = at-is-finite .before in
+    let at-turn-downhill = at-reach .before .before .before .before .before .before .before in
+    let at-start = at-turn-downhill .before .before .before .before .before .before .before .before .before .before in
+    let a = at-start .args in
+    let p = at-start .pre in
+    goes-along (entryOf (a .u .now) (a .n) (a .cols .now) (a .scale .now)) (a .rows) (a .num .now) (a .x .now) (a .free .now)
+    (a .g .now) (at-turn-downhill .turn-downhill .last .0) (at-turn-downhill .turn-downhill .last .1 .1 .1 .1 .1 .1 .0)
+    (at-reach .reach .result)
+    (at-turn-downhill .turn-downhill .ensures) (p .1 ∙ sym (p .2)) (at-reach .reach .ensures) (at-is-finite .is-finite .result)
+    (a .rows + a .rows - 0) (at-move-rows .move-rows .last .0) (at-move-free .move-free .last .0)
+    (at-is-finite .is-finite .ensures) (not-false _ (at-if1 .if1 .left))
+    (omega arith) (omega (arith, at-turn-downhill .turn-downhill .kept .0, p .4)) (at-move-free .move-free .ensures) (at-move-rows .move-rows .ensures)
 
 pub advance-spec : {M : Type 1} → statement M
 advance-spec =

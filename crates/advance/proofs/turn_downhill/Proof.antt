@@ -28,7 +28,8 @@ part-times-into-end c = search needs
 times-into-requires : tie.Need-times-into-requires
 times-into-requires c κs =
     let a = c .before .before .before .before .before .before .before .args in
-    let k : length (take (a .rows + a .rows - a .rows) (drop (a .rows) (a .num .now))) ≡ a .rows = length-part (a .rows) (a .rows + a .rows - a .rows) (a .num .now) (omega arith) ∙ omega arith in
+    let k : length (take (a .rows + a .rows - a .rows) (drop (a .rows) (a .num .now))) ≡ a .rows = length-part (a .rows)
+    (a .rows + a .rows - a .rows) (a .num .now) (omega arith) ∙ omega arith in
     (rw k (c .before .before .before .before .before .before .before .pre .0), c .before .before .before .before .before .before .before .pre .1)
 
 sub-dot : tie.Need-sub-dot
@@ -81,16 +82,19 @@ same-length-2 c = search needs
 
 returns : tie.Need-returns
 returns c =
-    let c2 = c .before .before in
-    let c6 = c2 .before .before .before .before in
-    let c8 = c6 .before .before in
-    let c14 = c8 .before .before .before .before .before .before in
-    let c22 = c14 .before .before .before .before .before .before .before .before in
-    let a = c22 .args in
-    let p = c22 .pre in
+    let at-turn-if2 = c .before .before in
+    let at-turn-if = at-turn-if2 .before .before .before .before in
+    let at-dot = at-turn-if .before .before in
+    let at-times-into = at-dot .before .before .before .before .before .before in
+    let at-start = at-times-into .before .before .before .before .before .before .before .before in
+    let a = at-start .args in
+    let p = at-start .pre in
     let r = a .rows in
-    downhill (entryOf (a .u .now) (a .n) (a .cols .now) (a .scale .now)) r (r + r - r) (r - 0) (length (a .cols .now)) (a .num .now) (a .g .now) (c14 .times-into .last .0) (c2 .turn-if2 .last .0) (c6 .turn-if .last .0) (c8 .dot .result)
-    (omega arith) (omega arith) (p .2) (p .1) (c14 .times-into .ensures) (c8 .dot .ensures) (c6 .turn-if .ensures) (c2 .turn-if2 .ensures)
+    downhill (entryOf (a .u .now) (a .n) (a .cols .now) (a .scale .now)) r (r + r - r) (r - 0) (length (a .cols .now))
+    (a .num .now) (a .g .now) (at-times-into .times-into .last .0) (at-turn-if2 .turn-if2 .last .0)
+    (at-turn-if .turn-if .last .0) (at-dot .dot .result)
+    (omega arith) (omega arith) (p .2) (p .1) (at-times-into .times-into .ensures) (at-dot .dot .ensures)
+    (at-turn-if .turn-if .ensures) (at-turn-if2 .turn-if2 .ensures)
 
 pub turn-downhill-spec : {M : Type 1} → statement M
 turn-downhill-spec =

@@ -76,19 +76,24 @@ slice-aggregate-block-first c = pushed-long (c .before .before .before .before .
 
 block-first-requires : tie.Need-block-first-requires
 block-first-requires c κs =
-    let c6 = c .before .before .before .before .before .before in
-    let c9 = c6 .before .before .before in
-    let c16 = c9 .before .before .before .before .before .before .before in
-    let c24 = c16 .before .before .before .before .before .before .before .before in
-    let a = c24 .args in
-    let p = c24 .pre in
+    let at-clear-words = c .before .before .before .before .before .before in
+    let at-first-rows = at-clear-words .before .before .before in
+    let at-norms-into = at-first-rows .before .before .before .before .before .before .before in
+    let at-start = at-norms-into .before .before .before .before .before .before .before .before in
+    let a = at-start .args in
+    let p = at-start .pre in
     let r = length (a .blocked .now) in
     let e = entryOf (a .u .now) (a .n) (a .cols .now) (a .scale .now) in
     let l = length (a .cols .now) in
-    let lb = c6 .clear-words .kept .0 in
-    let ln = normed-long e l r (r + r + r - (r + r)) (r - 0) (l / 4) (c9 .first-rows .result) (a .num .now) (c16 .norms-into .last .0) _ (c9 .first-rows .last .0) [] (omega arith) (omega arith) refl (omega (arith, p .2)) (omega (arith, p .0 .few)) (c16 .norms-into .ensures) (c9 .first-rows .ensures) in (
-      (rw lb (p .0), p .1, rw lb (omega (arith, ln, p .2)), c6 .clear-words .ensures ∙ ap (repeated 0) (sym lb)),
-      rw lb (first-rows-below e l r (r + r + r - (r + r)) (r - 0) (l / 4) (c9 .first-rows .result) (a .num .now) (c16 .norms-into .last .0) _ (c9 .first-rows .last .0) _ (omega arith) (omega arith) refl (omega (arith, p .2)) (omega (arith, p .0 .few)) (c16 .norms-into .ensures) (c9 .first-rows .ensures)),
+    let lb = at-clear-words .clear-words .kept .0 in
+    let ln = normed-long e l r (r + r + r - (r + r)) (r - 0) (l / 4) (at-first-rows .first-rows .result) (a .num .now)
+    (at-norms-into .norms-into .last .0) _ (at-first-rows .first-rows .last .0) [] (omega arith) (omega arith) refl
+    (omega (arith, p .2)) (omega (arith, p .0 .few)) (at-norms-into .norms-into .ensures) (at-first-rows .first-rows .ensures) in (
+      (rw lb (p .0), p .1, rw lb (omega (arith, ln, p .2)), at-clear-words .clear-words .ensures ∙ ap (repeated 0) (sym lb)),
+      rw lb (first-rows-below e l r (r + r + r - (r + r)) (r - 0) (l / 4) (at-first-rows .first-rows .result) (a .num .now)
+          (at-norms-into .norms-into .last .0) _ (at-first-rows .first-rows .last .0) _ (omega arith) (omega arith) refl
+          (omega (arith, p .2)) (omega (arith, p .0 .few)) (at-norms-into .norms-into .ensures)
+          (at-first-rows .first-rows .ensures)),
     )
 
 same-length : tie.Need-same-length
@@ -102,18 +107,21 @@ same-length-3 c = search needs
 
 returns : tie.Need-returns
 returns c =
-    let c6 = c .before .before .before .before .before .before in
-    let c13 = c6 .before .before .before .before .before .before .before in
-    let c16 = c13 .before .before .before in
-    let c23 = c16 .before .before .before .before .before .before .before in
-    let c31 = c23 .before .before .before .before .before .before .before .before in
-    let a = c31 .args in
-    let p = c31 .pre in
+    let at-block-first = c .before .before .before .before .before .before in
+    let at-clear-words = at-block-first .before .before .before .before .before .before .before in
+    let at-first-rows = at-clear-words .before .before .before in
+    let at-norms-into = at-first-rows .before .before .before .before .before .before .before in
+    let at-start = at-norms-into .before .before .before .before .before .before .before .before in
+    let a = at-start .args in
+    let p = at-start .pre in
     let r = length (a .blocked .now) in
     let e = entryOf (a .u .now) (a .n) (a .cols .now) (a .scale .now) in
     let l = length (a .cols .now) in
-    begun-is e l r (r + r + r - (r + r)) (r - 0) (l / 4) (c16 .first-rows .result) (a .num .now) (c23 .norms-into .last .0) _ (c16 .first-rows .last .0) _ (omega arith) (omega arith) refl (omega (arith, p .2)) (omega (arith, p .0 .few)) (c23 .norms-into .ensures) (c16 .first-rows .ensures)
-    (c6 .block-first .result) (c6 .block-first .last .0) (c6 .block-first .last .1 .0) (rw (c13 .clear-words .kept .0) at (c6 .block-first .ensures))
+    begun-is e l r (r + r + r - (r + r)) (r - 0) (l / 4) (at-first-rows .first-rows .result) (a .num .now)
+    (at-norms-into .norms-into .last .0) _ (at-first-rows .first-rows .last .0) _ (omega arith) (omega arith) refl
+    (omega (arith, p .2)) (omega (arith, p .0 .few)) (at-norms-into .norms-into .ensures) (at-first-rows .first-rows .ensures)
+    (at-block-first .block-first .result) (at-block-first .block-first .last .0) (at-block-first .block-first .last .1 .0)
+    (rw (at-clear-words .clear-words .kept .0) at (at-block-first .block-first .ensures))
 
 pub begin-spec : {M : Type 1} → statement M
 begin-spec =

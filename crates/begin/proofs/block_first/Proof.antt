@@ -36,13 +36,26 @@ shared-slice-read-i : tie.Need-shared-slice-read-i Inv-loop μ-loop
 shared-slice-read-i c = search needs
 
 cast-i : tie.Need-cast-i Inv-loop μ-loop
-cast-i c = omega (arith, c .before .before .before .before .before .before .before .before .before .before .pre .1 (c .before .before .loop .k) (c .before .loop-test .taken))
+cast-i c = omega (
+  arith,
+  c .before .before .before .before .before .before .before .before .before .before .pre .1 (c .before .before .loop .k)
+      (c .before .loop-test .taken),
+)
 
 mul-blocked : tie.Need-mul-blocked Inv-loop μ-loop
-mul-blocked c = omega (arith, c .before .before .before .before .before .before .before .before .before .before .pre .1 (c .before .before .loop .k) (c .before .loop-test .taken))
+mul-blocked c = omega (
+  arith,
+  c .before .before .before .before .before .before .before .before .before .before .pre .1 (c .before .before .loop .k)
+      (c .before .loop-test .taken),
+)
 
 slice-write-blocked : tie.Need-slice-write-blocked Inv-loop μ-loop
-slice-write-blocked c = omega (arith, c .before .before .before .before .before .before .before .before .before .before .pre .1 (c .before .before .loop .k) (c .before .loop-test .taken), c .before .before .loop .inv .long)
+slice-write-blocked c = omega (
+  arith,
+  c .before .before .before .before .before .before .before .before .before .before .pre .1 (c .before .before .loop .k)
+      (c .before .loop-test .taken),
+  c .before .before .loop .inv .long,
+)
 
 mul-block-row : tie.Need-mul-block-row Inv-loop μ-loop
 mul-block-row c = search needs
@@ -71,14 +84,17 @@ loop-less c = search needs
 
 loop-again : tie.Need-loop-again Inv-loop μ-loop
 loop-again c =
-    let c4 = c .before .before .before .before in
-    let c8 = c4 .before .before .before .before in
-    let c9 = c8 .before in
-    let c17 = c9 .before .before .before .before .before .before .before .before in
-    let a = c17 .args in
-    let s = c9 .loop in
-    blocking-turn (entryOf (a .u .now) (a .n) (a .cols .now) (a .scale .now)) (length (a .cols .now)) (a .first .now) (a .num .now) (length (a .blocked .now)) (a .v .now) (s .num) (s .blocked) (s .v) (s .count) (s .k) (s .inv)
-    (c4 .block-row .result) (c4 .block-row .last .0) (c4 .block-row .last .1 .1 .1 .1 .1 .1 .1 .0) (c8 .loop-test .taken) (omega arith) (c4 .block-row .kept .0) (c4 .block-row .kept .1 .1 .1 .1 .1 .1 .1 .0) (c4 .block-row .ensures)
+    let at-block-row = c .before .before .before .before in
+    let at-loop-test = at-block-row .before .before .before .before in
+    let at-loop = at-loop-test .before in
+    let at-start = at-loop .before .before .before .before .before .before .before .before in
+    let a = at-start .args in
+    let s = at-loop .loop in
+    blocking-turn (entryOf (a .u .now) (a .n) (a .cols .now) (a .scale .now)) (length (a .cols .now)) (a .first .now)
+    (a .num .now) (length (a .blocked .now)) (a .v .now) (s .num) (s .blocked) (s .v) (s .count) (s .k) (s .inv)
+    (at-block-row .block-row .result) (at-block-row .block-row .last .0) (at-block-row .block-row .last .1 .1 .1 .1 .1 .1 .1 .0)
+    (at-loop-test .loop-test .taken) (omega arith) (at-block-row .block-row .kept .0)
+    (at-block-row .block-row .kept .1 .1 .1 .1 .1 .1 .1 .0) (at-block-row .block-row .ensures)
 
 same-length : tie.Need-same-length Inv-loop μ-loop
 same-length c = search needs
@@ -91,10 +107,11 @@ same-length-3 c = search needs
 
 returns : tie.Need-returns Inv-loop μ-loop
 returns c =
-    let c9 = c .before .before .before .before .before .before .before .before .before in
-    let a = c9 .args in
+    let at-start = c .before .before .before .before .before .before .before .before .before in
+    let a = at-start .args in
     let s = c .before .loop in
-    blocking-end (entryOf (a .u .now) (a .n) (a .cols .now) (a .scale .now)) (length (a .cols .now)) (a .first .now) (a .num .now) (length (a .blocked .now)) (a .v .now) (s .num) (s .blocked) (s .v) (s .count) (s .k) (s .inv) (c .loop-test .left)
+    blocking-end (entryOf (a .u .now) (a .n) (a .cols .now) (a .scale .now)) (length (a .cols .now)) (a .first .now) (a .num .now)
+    (length (a .blocked .now)) (a .v .now) (s .num) (s .blocked) (s .v) (s .count) (s .k) (s .inv) (c .loop-test .left)
 
 pub block-first-spec : {M : Type 1} → statement M
 block-first-spec =

@@ -28,12 +28,13 @@ slice-aggregate-search-anew c = sym (length-take-le _ _ (omega arith))
 
 search-anew-requires : tie.Need-search-anew-requires
 search-anew-requires c κs =
-    let c9 = c .before .before .before .before .before .before .before .before .before in
-    let c20 = c9 .before .before .before .before .before .before .before .before .before .before .before in
-    let start = c20 in
+    let at-walk-anew = c .before .before .before .before .before .before .before .before .before in
+    let at-here = at-walk-anew .before .before .before .before .before .before .before .before .before .before .before in
+    let start = at-here in
     let a = start .args in
-    let m : length (take (length (a .blocked .now)) (c9 .walk-anew .last .0)) ≡ length (a .blocked .now) = length-take-le _ _ (omega (arith, c9 .walk-anew .kept .0)) in
-    (rw m (start .pre .0), c9 .walk-anew .kept .1 .1 .0 ∙ start .pre .1)
+    let m : length (take (length (a .blocked .now)) (at-walk-anew .walk-anew .last .0)) ≡ length (a .blocked .now) =
+    length-take-le _ _ (omega (arith, at-walk-anew .walk-anew .kept .0)) in
+    (rw m (start .pre .0), at-walk-anew .walk-anew .kept .1 .1 .0 ∙ start .pre .1)
 
 same-length : tie.Need-same-length
 same-length c = search needs
@@ -46,12 +47,14 @@ same-length-3 c = search needs
 
 returns : tie.Need-returns
 returns c =
-    let c4 = c .before .before .before .before in
-    let c14 = c4 .before .before .before .before .before .before .before .before .before .before in
-    let c25 = c14 .before .before .before .before .before .before .before .before .before .before .before in
-    let a = c25 .args in
-    let m : length (take (length (a .blocked .now)) (c14 .walk-anew .last .0)) ≡ length (a .blocked .now) = length-take-le _ _ (omega (arith, c14 .walk-anew .kept .0)) in
-    colors (entryOf (a .u .now) (a .n) (a .cols .now) (a .scale .now)) (length (a .cols .now)) (length (a .blocked .now)) (a .rng .state) _ _ _ _ _ _ (c14 .walk-anew .ensures) m (c4 .search-anew .ensures)
+    let at-search-anew = c .before .before .before .before in
+    let at-walk-anew = at-search-anew .before .before .before .before .before .before .before .before .before .before in
+    let at-start = at-walk-anew .before .before .before .before .before .before .before .before .before .before .before in
+    let a = at-start .args in
+    let m : length (take (length (a .blocked .now)) (at-walk-anew .walk-anew .last .0)) ≡ length (a .blocked .now) =
+    length-take-le _ _ (omega (arith, at-walk-anew .walk-anew .kept .0)) in
+    colors (entryOf (a .u .now) (a .n) (a .cols .now) (a .scale .now)) (length (a .cols .now)) (length (a .blocked .now))
+    (a .rng .state) _ _ _ _ _ _ (at-walk-anew .walk-anew .ensures) m (at-search-anew .search-anew .ensures)
 
 pub coloring-spec : {M : Type 1} → statement M
 coloring-spec =

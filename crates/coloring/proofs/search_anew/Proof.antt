@@ -23,11 +23,13 @@ same-length-2 c = search needs
 
 returns : tie.Need-returns
 returns c =
-    let c4 = c .before .before .before .before in
-    let c9 = c4 .before .before .before .before .before in
-    let c17 = c9 .before .before .before .before .before .before .before .before in
-    let a = c17 .args in
-    c4 .local-search .ensures ∙ ap (searched (entryOf (a .u .now) (a .n) (a .cols .now) (a .scale .now)) (length (a .cols .now)) (a .x .now)) (c9 .times-into .ensures)
+    let at-local-search = c .before .before .before .before in
+    let at-times-into = at-local-search .before .before .before .before .before in
+    let at-start = at-times-into .before .before .before .before .before .before .before .before in
+    let a = at-start .args in
+    at-local-search .local-search .ensures ∙ ap
+    (searched (entryOf (a .u .now) (a .n) (a .cols .now) (a .scale .now)) (length (a .cols .now)) (a .x .now))
+    (at-times-into .times-into .ensures)
 
 pub search-anew-spec : {M : Type 1} → statement M
 search-anew-spec =

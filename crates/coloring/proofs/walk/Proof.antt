@@ -14,22 +14,30 @@ use Rattle.coloring.proofs.walk.Statement.{statement}
 use Rattle.coloring.proofs.walk.Tie as tie
 
 abbrev Inv-loop : tie.InvT-loop
-Inv-loop num₀ blocked₀ x₀ free₀ u n cols scale places₀ subcols₀ subscale₀ subx₀ subfree₀ g₀ r₀ left₀ num blocked x free places subcols subscale subx subfree g r left =
+Inv-loop num₀ blocked₀ x₀ free₀ u n cols scale places₀ subcols₀ subscale₀ subx₀ subfree₀ g₀ r₀ left₀ num blocked x free places
+    subcols subscale subx subfree g r left =
     Roomy (length cols) num blocked x free 0 × (length num ≡ length num₀) × (length blocked ≡ length blocked₀) × (left ≡ freeOnes free)
     × Rooms places subcols subscale subx subfree g
     × (walked plusZero (entryOf u n cols scale) (length cols) (length blocked₀) (r₀ .state)
     ≡ onward plusZero (entryOf u n cols scale) (length cols) (length blocked₀) (between (length blocked₀) num x free (r .state)))
 
 abbrev μ-loop : tie.MeasureT-loop
-μ-loop num₀ blocked₀ x₀ free₀ u n cols scale places₀ subcols₀ subscale₀ subx₀ subfree₀ g₀ r₀ left₀ num blocked x free places subcols subscale subx subfree g r left = left
+μ-loop num₀ blocked₀ x₀ free₀ u n cols scale places₀ subcols₀ subscale₀ subx₀ subfree₀ g₀ r₀ left₀ num blocked x free places
+    subcols subscale subx subfree g r left = left
 
 count-free-requires : tie.Need-count-free-requires Inv-loop μ-loop
 count-free-requires c κs = search needs
 
 loop-holds : tie.Need-loop-holds Inv-loop μ-loop
 loop-holds c =
-    let start = c .before .before .before .before .before .before .before .before .before in
-    (start .pre .1, refl, refl, c .count-free .ensures, record { places = refl; subcols = refl; subscale = refl; subx = refl; subfree = refl; g = refl }, walk-begun _ _ _ _ _ _ _ _ (start .pre .2))
+    let start = c .before .before .before .before .before .before .before .before .before in (
+      start .pre .1,
+      refl,
+      refl,
+      c .count-free .ensures,
+      record { places = refl; subcols = refl; subscale = refl; subx = refl; subfree = refl; g = refl },
+      walk-begun _ _ _ _ _ _ _ _ (start .pre .2),
+    )
 
 slice-aggregate-next-phase : tie.Need-slice-aggregate-next-phase Inv-loop μ-loop
 slice-aggregate-next-phase c = sym (c .before .before .before .before .before .before .loop .inv .4 .places)
@@ -51,12 +59,19 @@ slice-aggregate-next-phase-6 c = sym (c .before .before .before .before .before 
 
 next-phase-requires : tie.Need-next-phase-requires Inv-loop μ-loop
 next-phase-requires c κs =
-    let c11 = c .before .before .before .before .before .before .before .before .before .before .before in
-    let c21 = c11 .before .before .before .before .before .before .before .before .before .before in
-    let few = c21 .pre .0 .few in
-    let r = c11 .loop .inv .4 in (
-      (rw (c11 .loop .inv .2) (c21 .pre .0), c11 .loop .inv .0),
-      (omega (arith, few, r .places), omega (arith, few, r .subcols), omega (arith, few, r .subscale), omega (arith, few, r .subx), omega (arith, few, r .subfree), omega (arith, few, r .g)),
+    let at-loop = c .before .before .before .before .before .before .before .before .before .before .before in
+    let at-start = at-loop .before .before .before .before .before .before .before .before .before .before in
+    let few = at-start .pre .0 .few in
+    let r = at-loop .loop .inv .4 in (
+      (rw (at-loop .loop .inv .2) (at-start .pre .0), at-loop .loop .inv .0),
+      (
+        omega (arith, few, r .places),
+        omega (arith, few, r .subcols),
+        omega (arith, few, r .subscale),
+        omega (arith, few, r .subx),
+        omega (arith, few, r .subfree),
+        omega (arith, few, r .g),
+      ),
     )
 
 count-free-requires-2 : tie.Need-count-free-requires-2 Inv-loop μ-loop
@@ -64,28 +79,30 @@ count-free-requires-2 c κs = search needs
 
 loop-less : tie.Need-loop-less Inv-loop μ-loop
 loop-less c =
-    let c16 = c .before .before .before .before .before .before .before .before .before .before .before .before .before .before .before .before in
-    let c27 = c16 .before .before .before .before .before .before .before .before .before .before .before in
-    let c28 = c27 .before in
-    let a = c28 .before .before .before .before .before .before .before .before .before .before .args in
-    let l = c28 .loop in
-    let step = rw (l .inv .2) at (c16 .next-phase .ensures) in
+    let at-next-phase = c .before .before .before .before .before .before .before .before .before .before .before .before .before .before .before .before in
+    let at-loop-test = at-next-phase .before .before .before .before .before .before .before .before .before .before .before in
+    let at-loop = at-loop-test .before in
+    let a = at-loop .before .before .before .before .before .before .before .before .before .before .args in
+    let l = at-loop .loop in
+    let step = rw (l .inv .2) at (at-next-phase .next-phase .ensures) in
     omega (
       arith,
       c .count-free2 .ensures,
       l .inv .3,
-      walk-falls plusZero (entryOf (a .u .now) (a .n) (a .cols .now) (a .scale .now)) (length (a .cols .now)) (length (a .blocked .now)) (between (length (a .blocked .now)) (l .num) (l .x) (l .free) (l .r .state)) _ step (λ z. omega (arith, l .inv .3, c27 .loop-test .taken)),
+      walk-falls plusZero (entryOf (a .u .now) (a .n) (a .cols .now) (a .scale .now)) (length (a .cols .now))
+          (length (a .blocked .now)) (between (length (a .blocked .now)) (l .num) (l .x) (l .free) (l .r .state)) _ step
+          (λ z. omega (arith, l .inv .3, at-loop-test .loop-test .taken)),
     )
 
 loop-again : tie.Need-loop-again Inv-loop μ-loop
 loop-again c =
-    let c16 = c .before .before .before .before .before .before .before .before .before .before .before .before .before .before .before .before in
-    let c27 = c16 .before .before .before .before .before .before .before .before .before .before .before in
-    let c28 = c27 .before in
-    let a = c28 .before .before .before .before .before .before .before .before .before .before .args in
-    let l = c28 .loop in
-    let step = rw (l .inv .2) at (c16 .next-phase .ensures) in
-    let kept = c16 .next-phase .kept in (
+    let at-next-phase = c .before .before .before .before .before .before .before .before .before .before .before .before .before .before .before .before in
+    let at-loop-test = at-next-phase .before .before .before .before .before .before .before .before .before .before .before in
+    let at-loop = at-loop-test .before in
+    let a = at-loop .before .before .before .before .before .before .before .before .before .before .args in
+    let l = at-loop .loop in
+    let step = rw (l .inv .2) at (at-next-phase .next-phase .ensures) in
+    let kept = at-next-phase .next-phase .kept in (
       roomy-still _ _ _ _ _ _ _ _ _ (l .inv .0) (kept .0) (kept .1 .0) (kept .1 .1 .0) (kept .1 .1 .1 .0),
       kept .0 ∙ l .inv .1,
       kept .1 .0 ∙ l .inv .2,
@@ -98,7 +115,9 @@ loop-again c =
         subfree = kept .1 .1 .1 .1 .1 .1 .1 .1 .1 .1 .1 .1 .1 .0 ∙ l .inv .4 .subfree;
         g = kept .1 .1 .1 .1 .1 .1 .1 .1 .1 .1 .1 .1 .1 .1 .0 ∙ l .inv .4 .g;
       },
-      l .inv .5 ∙ walk-turn plusZero (entryOf (a .u .now) (a .n) (a .cols .now) (a .scale .now)) (length (a .cols .now)) (length (a .blocked .now)) (between (length (a .blocked .now)) (l .num) (l .x) (l .free) (l .r .state)) _ step (λ z. omega (arith, l .inv .3, c27 .loop-test .taken)),
+      l .inv .5 ∙ walk-turn plusZero (entryOf (a .u .now) (a .n) (a .cols .now) (a .scale .now)) (length (a .cols .now))
+          (length (a .blocked .now)) (between (length (a .blocked .now)) (l .num) (l .x) (l .free) (l .r .state)) _ step
+          (λ z. omega (arith, l .inv .3, at-loop-test .loop-test .taken)),
     )
 
 same-length : tie.Need-same-length Inv-loop μ-loop
@@ -115,10 +134,11 @@ same-length-4 c = search needs
 
 returns : tie.Need-returns Inv-loop μ-loop
 returns c =
-    let c11 = c .before .before .before .before .before .before .before .before .before .before .before in
-    let a = c11 .args in
+    let at-start = c .before .before .before .before .before .before .before .before .before .before .before in
+    let a = at-start .args in
     let l = c .before .loop in
-    sym (l .inv .5 ∙ walk-over plusZero (entryOf (a .u .now) (a .n) (a .cols .now) (a .scale .now)) (length (a .cols .now)) (length (a .blocked .now)) (between (length (a .blocked .now)) (l .num) (l .x) (l .free) (l .r .state)) (omega arith))
+    sym (l .inv .5 ∙ walk-over plusZero (entryOf (a .u .now) (a .n) (a .cols .now) (a .scale .now)) (length (a .cols .now))
+    (length (a .blocked .now)) (between (length (a .blocked .now)) (l .num) (l .x) (l .free) (l .r .state)) (omega arith))
 
 pub walk-spec : {M : Type 1} → statement M
 walk-spec =

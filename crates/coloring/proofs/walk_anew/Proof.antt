@@ -25,15 +25,18 @@ fill-words-requires c κs = search needs
 
 walk-requires : tie.Need-walk-requires
 walk-requires c κs =
-    let c6 = c .before .before .before .before .before .before in
-    let c10 = c6 .before .before .before .before in
-    let c14 = c10 .before .before .before .before in
-    let c23 = c14 .before .before .before .before .before .before .before .before .before in
-    let start = c23 in
+    let at-fill-words = c .before .before .before .before .before .before in
+    let at-clear2 = at-fill-words .before .before .before .before in
+    let at-clear = at-clear2 .before .before .before .before in
+    let at-here = at-clear .before .before .before .before .before .before .before .before .before in
+    let start = at-here in
     let a = start .args in (
       start .pre .0,
-      roomy-still _ (a .num .now) _ (a .blocked .now) _ (a .x .now) _ (a .free .now) _ (start .pre .1) (length-front (a .num .now) (c10 .clear2 .last .0) (length (a .blocked .now)) (c10 .clear2 .kept .0)) refl (c14 .clear .kept .0) (c6 .fill-words .kept .0),
-      fresh-is _ _ (a .num .now) (a .x .now) _ _ (a .free .now) _ (start .pre .1 .wide) (start .pre .1 .marks) (omega arith) (c14 .clear .ensures) (c10 .clear2 .ensures) (c6 .fill-words .ensures),
+      roomy-still _ (a .num .now) _ (a .blocked .now) _ (a .x .now) _ (a .free .now) _ (start .pre .1)
+          (length-front (a .num .now) (at-clear2 .clear2 .last .0) (length (a .blocked .now)) (at-clear2 .clear2 .kept .0)) refl
+          (at-clear .clear .kept .0) (at-fill-words .fill-words .kept .0),
+      fresh-is _ _ (a .num .now) (a .x .now) _ _ (a .free .now) _ (start .pre .1 .wide) (start .pre .1 .marks) (omega arith)
+          (at-clear .clear .ensures) (at-clear2 .clear2 .ensures) (at-fill-words .fill-words .ensures),
     )
 
 same-length : tie.Need-same-length

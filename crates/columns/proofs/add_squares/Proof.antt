@@ -6,13 +6,13 @@ use lib.Ieee.{nan}
 use lib.ListN.{length}
 use Rattle.seq.proofs.Filling.{Filled, start, turn, still, whole}
 use Rattle.columns.specs.Columns.{scaledAt}
-use Rattle.columns.specs.Kernels.{squaredAt}
+use Rattle.columns.specs.Kernels.{plusSquares}
 use Rattle.columns.proofs.Scaled.{scaled-own, scaled-under}
 use Rattle.columns.proofs.add_squares.Statement.{statement}
 use Rattle.columns.proofs.add_squares.Tie as tie
 
 abbrev Inv-loop : tie.InvT-loop
-Inv-loop acc₀ column s i₀ acc i = Filled (squaredAt (scaledAt column s) acc₀) acc₀ i acc × (i ≤ length column)
+Inv-loop acc₀ column s i₀ acc i = Filled (plusSquares (scaledAt column s) acc₀) acc₀ i acc × (i ≤ length column)
 
 abbrev μ-loop : tie.MeasureT-loop
 μ-loop acc₀ column s i₀ acc i = length column - i
@@ -70,7 +70,11 @@ same-length c = search needs
 returns : tie.Need-returns Inv-loop μ-loop
 returns c =
     let v = c .before .before .before .before .loop .inv .0 in
-    whole (turn v (omega arith) (rw (still v (omega arith) nan, scaled-under _ _ _ (c .before .before .before .loop-test .left), c .before .abs .ensures))) (omega arith)
+    whole (turn v (omega arith) (rw (
+      still v (omega arith) nan,
+      scaled-under _ _ _ (c .before .before .before .loop-test .left),
+      c .before .abs .ensures,
+    ))) (omega arith)
 
 same-length-2 : tie.Need-same-length-2 Inv-loop μ-loop
 same-length-2 c = search needs

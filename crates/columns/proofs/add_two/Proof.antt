@@ -6,13 +6,13 @@ use lib.Ieee.{nan}
 use lib.ListN.{length}
 use Rattle.seq.proofs.Filling.{Filled, start, turn, still, whole}
 use Rattle.columns.specs.Columns.{scaledAt}
-use Rattle.columns.specs.Kernels.{plusTwo}
+use Rattle.columns.specs.Kernels.{plusColumns}
 use Rattle.columns.proofs.Scaled.{scaled-own, scaled-under}
 use Rattle.columns.proofs.add_two.Statement.{statement}
 use Rattle.columns.proofs.add_two.Tie as tie
 
 abbrev Inv-loop : tie.InvT-loop
-Inv-loop acc₀ first s g second t h i₀ acc i = Filled (plusTwo (scaledAt first s) g (scaledAt second t) h acc₀) acc₀ i acc × (i ≤ length first)
+Inv-loop acc₀ first s g second t h i₀ acc i = Filled (plusColumns (scaledAt first s) g (scaledAt second t) h acc₀) acc₀ i acc × (i ≤ length first)
 
 abbrev μ-loop : tie.MeasureT-loop
 μ-loop acc₀ first s g second t h i₀ acc i = length first - i
@@ -52,12 +52,18 @@ loop-less c = search needs
 
 loop-again : tie.Need-loop-again Inv-loop μ-loop
 loop-again c =
-    let c4 = c .before .before .before .before in
-    let c8 = c4 .before .before .before .before in
-    let v = c4 .loop .inv .0 in
+    let at-loop = c .before .before .before .before in
+    let at-start = at-loop .before .before .before .before in
+    let v = at-loop .loop .inv .0 in
     let own = c .before .before .before .loop-test .taken in
-    let other : c4 .loop .i < length (c8 .args .second .now) = omega (arith, own, c8 .pre .0) in
-    (turn v (omega arith) (rw (still v (omega arith) nan, scaled-own _ _ _ own, scaled-own (c8 .args .second .now) (c8 .args .t) _ other)), omega arith)
+    let other : at-loop .loop .i < length (at-start .args .second .now) = omega (arith, own, at-start .pre .0) in (
+      turn v (omega arith) (rw (
+        still v (omega arith) nan,
+        scaled-own _ _ _ own,
+        scaled-own (at-start .args .second .now) (at-start .args .t) _ other,
+      )),
+      omega arith,
+    )
 
 mul-acc-5 : tie.Need-mul-acc-5 Inv-loop μ-loop
 mul-acc-5 c = search needs
@@ -82,12 +88,18 @@ same-length c = search needs
 
 returns : tie.Need-returns Inv-loop μ-loop
 returns c =
-    let c5 = c .before .before .before .before .before in
-    let c9 = c5 .before .before .before .before in
-    let v = c5 .loop .inv .0 in
+    let at-loop = c .before .before .before .before .before in
+    let at-start = at-loop .before .before .before .before in
+    let v = at-loop .loop .inv .0 in
     let under = c .before .before .before .before .loop-test .left in
-    let other : length (c9 .args .second .now) ≤ c5 .loop .i = omega (arith, under, c9 .pre .0) in
-    whole (turn v (omega arith) (rw (still v (omega arith) nan, scaled-under _ _ _ under, scaled-under (c9 .args .second .now) (c9 .args .t) _ other, c .before .abs .ensures, c .abs2 .ensures))) (omega arith)
+    let other : length (at-start .args .second .now) ≤ at-loop .loop .i = omega (arith, under, at-start .pre .0) in
+    whole (turn v (omega arith) (rw (
+      still v (omega arith) nan,
+      scaled-under _ _ _ under,
+      scaled-under (at-start .args .second .now) (at-start .args .t) _ other,
+      c .before .abs .ensures,
+      c .abs2 .ensures,
+    ))) (omega arith)
 
 same-length-2 : tie.Need-same-length-2 Inv-loop μ-loop
 same-length-2 c = search needs

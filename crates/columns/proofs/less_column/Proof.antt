@@ -6,13 +6,13 @@ use lib.Ieee.{nan}
 use lib.ListN.{length}
 use Rattle.seq.proofs.Filling.{Filled, start, turn, still, whole}
 use Rattle.columns.specs.Columns.{scaledAt}
-use Rattle.columns.specs.Kernels.{lessAt}
+use Rattle.columns.specs.Kernels.{lessColumn}
 use Rattle.columns.proofs.Scaled.{scaled-own, scaled-under}
 use Rattle.columns.proofs.less_column.Statement.{statement}
 use Rattle.columns.proofs.less_column.Tie as tie
 
 abbrev Inv-loop : tie.InvT-loop
-Inv-loop ax₀ column s t i₀ ax i = Filled (lessAt (scaledAt column s) t ax₀) ax₀ i ax × (i ≤ length column)
+Inv-loop ax₀ column s t i₀ ax i = Filled (lessColumn (scaledAt column s) t ax₀) ax₀ i ax × (i ≤ length column)
 
 abbrev μ-loop : tie.MeasureT-loop
 μ-loop ax₀ column s t i₀ ax i = length column - i
@@ -70,7 +70,9 @@ same-length c = search needs
 returns : tie.Need-returns Inv-loop μ-loop
 returns c =
     let v = c .before .before .before .before .loop .inv .0 in
-    whole (turn v (omega arith) (rw (still v (omega arith) nan, scaled-under _ _ _ (c .before .before .before .loop-test .left), c .abs .ensures))) (omega arith)
+    whole (turn v (omega arith)
+    (rw (still v (omega arith) nan, scaled-under _ _ _ (c .before .before .before .loop-test .left), c .abs .ensures)))
+    (omega arith)
 
 same-length-2 : tie.Need-same-length-2 Inv-loop μ-loop
 same-length-2 c = search needs

@@ -1,4 +1,5 @@
--- `columns::stays_below` meets its contract: while the loop runs the largest magnitude of the rows so far is below the bound, and the first row that is not settles it.
+-- `columns::stays_below` meets its contract: while the loop runs the largest magnitude of the rows so far is below the bound, and the first row that is
+-- not settles it.
 use borrow.Author.Needs.{needs}
 use Prim.Native.Nat.{_+_, _-_, _≤_}
 use mathlib.Core.Path.{_≡_, sym, subst, _∙_}
@@ -10,7 +11,7 @@ use lib.Ieee.{binary64, lt, le}
 use lib.Ieee.Fits.{sub-fits}
 use Rattle.ieee.specs.Magnitude.{absOf, maxAbsTo}
 use Rattle.columns.specs.Columns.{scaledAt}
-use Rattle.columns.specs.Kernels.{lessAt}
+use Rattle.columns.specs.Kernels.{lessColumn}
 use Rattle.columns.proofs.Scaled.{scaled-own, scaled-under}
 use Rattle.columns.proofs.Bounding.{not-below, never-below, still-below, last-below}
 use lib.ListN.{length}
@@ -18,7 +19,7 @@ use Rattle.columns.proofs.stays_below.Statement.{statement}
 use Rattle.columns.proofs.stays_below.Tie as tie
 
 abbrev Inv-loop : tie.InvT-loop
-Inv-loop ax column s t bound i₀ i = (i ≤ length column) × (lt (maxAbsTo (lessAt (scaledAt column s) t ax) i) bound ≡ true)
+Inv-loop ax column s t bound i₀ i = (i ≤ length column) × (lt (maxAbsTo (lessColumn (scaledAt column s) t ax) i) bound ≡ true)
 
 abbrev μ-loop : tie.MeasureT-loop
 μ-loop ax column s t bound i₀ i = length column - i
@@ -26,7 +27,8 @@ abbrev μ-loop : tie.MeasureT-loop
 returns : tie.Need-returns Inv-loop μ-loop
 returns c =
     let a = c .before .before .before .args in
-    sym (never-below (lessAt (scaledAt (a .column .now) (a .s)) (a .t) (a .ax .now)) (λ j. sub-fits binary64 _ _) (a .bound) (subst T (sym (c .before .before .before .good .1 .1 .1 .1 .0 .1)) tt) _ (not-true _ (c .if1 .taken)))
+    sym (never-below (lessColumn (scaledAt (a .column .now) (a .s)) (a .t) (a .ax .now)) (λ j. sub-fits binary64 _ _) (a .bound)
+    (subst T (sym (c .before .before .before .good .1 .1 .1 .1 .0 .1)) tt) _ (not-true _ (c .if1 .taken)))
 
 loop-holds : tie.Need-loop-holds Inv-loop μ-loop
 loop-holds c = (omega arith, unfold maxAbsTo in not-false _ (c .if1 .left))
@@ -48,13 +50,16 @@ abs-requires c κs = search needs
 
 returns-2 : tie.Need-returns-2 Inv-loop μ-loop
 returns-2 c =
-    let c4 = c .before .before .before .before in
-    let c5 = c4 .before in
-    let c9 = c5 .before .before .before .before in
-    let a = c9 .args in
-    let i = c5 .loop .i in
-    let e : le (a .bound) (absOf (lessAt (scaledAt (a .column .now) (a .s)) (a .t) (a .ax .now) i)) ≡ true = rw (scaled-own (a .column .now) (a .s) i (c4 .loop-test .taken), ← c .before .abs .ensures) (c .if2 .taken) in
-    sym (not-below (lessAt (scaledAt (a .column .now) (a .s)) (a .t) (a .ax .now)) (λ j. sub-fits binary64 _ _) (a .bound) (subst T (sym (c9 .good .1 .1 .1 .1 .0 .1)) tt) i _ (omega arith) e)
+    let at-loop-test = c .before .before .before .before in
+    let at-loop = at-loop-test .before in
+    let at-start = at-loop .before .before .before .before in
+    let a = at-start .args in
+    let i = at-loop .loop .i in
+    let e : le (a .bound) (absOf (lessColumn (scaledAt (a .column .now) (a .s)) (a .t) (a .ax .now) i)) ≡ true =
+    rw (scaled-own (a .column .now) (a .s) i (at-loop-test .loop-test .taken), ← c .before .abs .ensures)
+    (c .if2 .taken) in
+    sym (not-below (lessColumn (scaledAt (a .column .now) (a .s)) (a .t) (a .ax .now)) (λ j. sub-fits binary64 _ _) (a .bound)
+    (subst T (sym (at-start .good .1 .1 .1 .1 .0 .1)) tt) i _ (omega arith) e)
 
 add-i : tie.Need-add-i Inv-loop μ-loop
 add-i c = search needs
@@ -64,13 +69,18 @@ loop-less c = search needs
 
 loop-again : tie.Need-loop-again Inv-loop μ-loop
 loop-again c =
-    let c4 = c .before .before .before .before in
-    let c5 = c4 .before in
-    let c9 = c5 .before .before .before .before in
-    let a = c9 .args in
-    let i = c5 .loop .i in
-    let e : le (a .bound) (absOf (lessAt (scaledAt (a .column .now) (a .s)) (a .t) (a .ax .now) i)) ≡ false = rw (scaled-own (a .column .now) (a .s) i (c4 .loop-test .taken), ← c .before .abs .ensures) (c .if2 .left) in
-    (omega arith, still-below (lessAt (scaledAt (a .column .now) (a .s)) (a .t) (a .ax .now)) (λ j. sub-fits binary64 _ _) (a .bound) (subst T (sym (c9 .good .1 .1 .1 .1 .0 .1)) tt) i (c5 .loop .inv .1) e)
+    let at-loop-test = c .before .before .before .before in
+    let at-loop = at-loop-test .before in
+    let at-start = at-loop .before .before .before .before in
+    let a = at-start .args in
+    let i = at-loop .loop .i in
+    let e : le (a .bound) (absOf (lessColumn (scaledAt (a .column .now) (a .s)) (a .t) (a .ax .now) i)) ≡ false =
+    rw (scaled-own (a .column .now) (a .s) i (at-loop-test .loop-test .taken), ← c .before .abs .ensures)
+    (c .if2 .left) in (
+      omega arith,
+      still-below (lessColumn (scaledAt (a .column .now) (a .s)) (a .t) (a .ax .now)) (λ j. sub-fits binary64 _ _) (a .bound)
+          (subst T (sym (at-start .good .1 .1 .1 .1 .0 .1)) tt) i (at-loop .loop .inv .1) e,
+    )
 
 mul-abs-3 : tie.Need-mul-abs-3 Inv-loop μ-loop
 mul-abs-3 c = search needs
@@ -86,14 +96,16 @@ abs-requires-3 c κs = search needs
 
 returns-3 : tie.Need-returns-3 Inv-loop μ-loop
 returns-3 c =
-    let c4 = c .before .before .before .before in
-    let c5 = c4 .before in
-    let c9 = c5 .before .before .before .before in
-    let a = c9 .args in
-    let i = c5 .loop .i in
+    let at-loop-test = c .before .before .before .before in
+    let at-loop = at-loop-test .before in
+    let at-start = at-loop .before .before .before .before in
+    let a = at-start .args in
+    let i = at-loop .loop .i in
     let all : length (a .ax .now) ≡ i + 1 = omega arith in
-    let e : c .abs3 .result ≡ absOf (lessAt (scaledAt (a .column .now) (a .s)) (a .t) (a .ax .now) i) = c .abs3 .ensures ∙ rw (scaled-under (a .column .now) (a .s) i (c4 .loop-test .left), c .before .abs2 .ensures) in
-    rw (e, all) (last-below (lessAt (scaledAt (a .column .now) (a .s)) (a .t) (a .ax .now)) (λ j. sub-fits binary64 _ _) (a .bound) (subst T (sym (c9 .good .1 .1 .1 .1 .0 .1)) tt) i (c5 .loop .inv .1))
+    let e : c .abs3 .result ≡ absOf (lessColumn (scaledAt (a .column .now) (a .s)) (a .t) (a .ax .now) i) =
+    c .abs3 .ensures ∙ rw (scaled-under (a .column .now) (a .s) i (at-loop-test .loop-test .left), c .before .abs2 .ensures) in
+    rw (e, all) (last-below (lessColumn (scaledAt (a .column .now) (a .s)) (a .t) (a .ax .now)) (λ j. sub-fits binary64 _ _)
+    (a .bound) (subst T (sym (at-start .good .1 .1 .1 .1 .0 .1)) tt) i (at-loop .loop .inv .1))
 
 returns-4 : tie.Need-returns-4 Inv-loop μ-loop
 returns-4 c =

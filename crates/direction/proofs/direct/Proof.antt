@@ -22,13 +22,13 @@ same-length c = search needs
 
 returns : tie.Need-returns
 returns c =
-    let c4 = c .before .before .before .before in
-    let c8 = c4 .before .before .before .before in
-    let c10 = c8 .before .before in
-    let c15 = c10 .before .before .before .before .before in
-    let a = c15 .args in
+    let at-zero-frozen = c .before .before .before .before in
+    let at-project-out = at-zero-frozen .before .before .before .before in
+    let at-norm = at-project-out .before .before in
+    let at-start = at-norm .before .before .before .before .before in
+    let a = at-start .args in
     directs _ (vectorsIn (a .l) (a .count) (a .basis .now)) (a .free .now) (a .g .now) _ _ _ _
-    (c10 .norm .ensures) (c8 .project-out .ensures) (c4 .zero-frozen .ensures) (c .norm2 .ensures)
+    (at-norm .norm .ensures) (at-project-out .project-out .ensures) (at-zero-frozen .zero-frozen .ensures) (c .norm2 .ensures)
 
 pub direct-spec : {M : Type 1} → statement M
 direct-spec =

@@ -38,8 +38,10 @@ loop-less c = search needs
 loop-again : tie.Need-loop-again Inv-loop μ-loop
 unfolding drawAt afterDraws
 loop-again c =
-    let c3 = c .before .before .before in
-    (turn (c3 .loop .inv .0) (omega arith) (c .before .gaussian .ensures .0 ∙ rw (c3 .loop .inv .1)), c .before .gaussian .ensures .1 ∙ rw (add-one, c3 .loop .inv .1))
+    let at-loop = c .before .before .before in (
+      turn (at-loop .loop .inv .0) (omega arith) (c .before .gaussian .ensures .0 ∙ rw (at-loop .loop .inv .1)),
+      c .before .gaussian .ensures .1 ∙ rw (add-one, at-loop .loop .inv .1),
+    )
 
 same-length : tie.Need-same-length Inv-loop μ-loop
 same-length c = search needs

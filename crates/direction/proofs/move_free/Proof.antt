@@ -58,7 +58,8 @@ loop-less c = search needs
 loop-again : tie.Need-loop-again Inv-loop μ-loop
 loop-again c =
     ⊎-elim
-    (λ w. rw (w .4) (turn (c .before .before .before .loop .inv) (omega arith) (w .3 .ensures ∙ rw (eq-eqb _ _ (w .0 .taken), still (c .before .before .before .loop .inv) (omega arith) nan, minus-one))))
+    (λ w. rw (w .4) (turn (c .before .before .before .loop .inv) (omega arith)
+    (w .3 .ensures ∙ rw (eq-eqb _ _ (w .0 .taken), still (c .before .before .before .loop .inv) (omega arith) nan, minus-one))))
     (λ w. rw (w .1) (skip nan (c .before .before .before .loop .inv) (omega arith) (rw (ne-eqb _ _ (w .0 .left)))))
     (c .if1 .came)
 

@@ -47,8 +47,11 @@ loop-less c = search needs
 
 loop-again : tie.Need-loop-again Inv-loop μ-loop
 loop-again c =
-    let a = c .before .before .before .before .args in
-    (along-turn (a .t) (a .rows) (c .before .before .before .loop .i) (a .both .now) (c .before .before .before .loop .both) (c .before .before .before .before .pre) (c .before .before .before .loop .inv .0) (omega arith), omega arith)
+    let a = c .before .before .before .before .args in (
+      along-turn (a .t) (a .rows) (c .before .before .before .loop .i) (a .both .now) (c .before .before .before .loop .both)
+          (c .before .before .before .before .pre) (c .before .before .before .loop .inv .0) (omega arith),
+      omega arith,
+    )
 
 same-length : tie.Need-same-length Inv-loop μ-loop
 same-length c = search needs
@@ -56,7 +59,8 @@ same-length c = search needs
 returns : tie.Need-returns Inv-loop μ-loop
 returns c =
     let a = c .before .before .args in
-    along-whole (a .t) (a .rows) (c .before .loop .i) (a .both .now) (c .before .loop .both) (c .before .before .pre) (c .before .loop .inv .0) (omega arith) (c .before .loop .inv .1)
+    along-whole (a .t) (a .rows) (c .before .loop .i) (a .both .now) (c .before .loop .both) (c .before .before .pre)
+    (c .before .loop .inv .0) (omega arith) (c .before .loop .inv .1)
 
 pub move-rows-spec : {M : Type 1} → statement M
 move-rows-spec =

@@ -69,7 +69,8 @@ loop-again c =
     let l = c .before .before .before .loop in (
       omega arith,
       ⊎-elim
-          (λ w. w .8 ∙ reach-moves (a .x .now) (a .g .now) (a .free .now) (l .p) (l .step) (l .inv .1) _ _ (w .0 .taken) (w .2 .taken) (w .4 .ensures) (w .7 .ensures))
+          (λ w. w .8 ∙ reach-moves (a .x .now) (a .g .now) (a .free .now) (l .p) (l .step) (l .inv .1) _ _ (w .0 .taken)
+          (w .2 .taken) (w .4 .ensures) (w .7 .ensures))
           (⊎-elim
           (λ w. w .3 ∙ reach-still (a .x .now) (a .g .now) (a .free .now) (l .p) (l .step) (l .inv .1) (w .0 .taken) (w .2 .left))
           (λ w. w .1 ∙ reach-frozen (a .x .now) (a .g .now) (a .free .now) (l .p) (l .step) (l .inv .1) (w .0 .left)))

@@ -1,4 +1,5 @@
--- `direction::zero_frozen` meets its contract: after p turns the first p places are zeroed where they are not free; a turn stores, or the place is right already.
+-- `direction::zero_frozen` meets its contract: after p turns the first p places are zeroed where they are not free; a turn stores, or the place is right
+-- already.
 use borrow.Author.Tests.{ne-eqb, eq-eqb}
 use Rattle.seq.proofs.Filling.{Filled, start, turn, whole, skip}
 use Rattle.direction.specs.Direction.{zeroed, zeroedAt}

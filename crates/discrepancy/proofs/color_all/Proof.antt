@@ -30,42 +30,50 @@ fill-requires : tie.Need-fill-requires
 fill-requires c κs = search needs
 
 array-share-prefix-cols : tie.Need-array-share-prefix-cols
-array-share-prefix-cols c = filled-long (λ i. i) _ _ _ (c .before .before .before .before .before .before .before .before .before .before .pre .1) (c .before .before .before .before .count-up .ensures)
+array-share-prefix-cols c = filled-long (λ i. i) _ _ _
+    (c .before .before .before .before .before .before .before .before .before .before .pre .1)
+    (c .before .before .before .before .count-up .ensures)
 
 slice-aggregate-coloring : tie.Need-slice-aggregate-coloring
 slice-aggregate-coloring c =
-    let c5 = c .before .before .before .before .before in
-    let c11 = c5 .before .before .before .before .before .before in
-    sym (length-take-le _ _ (filled-long (λ i. i) _ _ _ (c11 .pre .1) (c5 .count-up .ensures)))
+    let at-count-up = c .before .before .before .before .before in
+    let at-start = at-count-up .before .before .before .before .before .before in
+    sym (length-take-le _ _ (filled-long (λ i. i) _ _ _ (at-start .pre .1) (at-count-up .count-up .ensures)))
 
 array-share-prefix-scale : tie.Need-array-share-prefix-scale
-array-share-prefix-scale c = filled-long (λ i. one) _ _ _ (c .before .before .before .before .before .before .before .before .before .before .before .pre .1) (c .before .before .fill .ensures)
+array-share-prefix-scale c = filled-long (λ i. one) _ _ _
+    (c .before .before .before .before .before .before .before .before .before .before .before .pre .1)
+    (c .before .before .fill .ensures)
 
 slice-aggregate-coloring-2 : tie.Need-slice-aggregate-coloring-2
-slice-aggregate-coloring-2 c = sym (length-take-le _ _ (filled-long (λ i. one) _ _ _ (c .before .before .before .before .before .before .before .before .before .before .before .before .pre .1) (c .before .before .before .fill .ensures)))
+slice-aggregate-coloring-2 c = sym (length-take-le _ _ (filled-long (λ i. one) _ _ _
+    (c .before .before .before .before .before .before .before .before .before .before .before .before .pre .1)
+    (c .before .before .before .fill .ensures)))
 
 slice-relend-prefix-coloring : tie.Need-slice-relend-prefix-coloring
 slice-relend-prefix-coloring c = search needs
 
 slice-aggregate-coloring-3 : tie.Need-slice-aggregate-coloring-3
-slice-aggregate-coloring-3 c = sym (length-take-le _ _ (c .before .before .before .before .before .before .before .before .before .before .before .before .before .before .before .pre .5))
+slice-aggregate-coloring-3 c = sym (length-take-le _ _ (c .before .before .before .before .before .before .before .before .before
+    .before .before .before .before .before .before .pre .5))
 
 new-requires : tie.Need-new-requires
 new-requires c κs = search needs
 
 coloring-requires : tie.Need-coloring-requires
 coloring-requires c κs =
-    let c7 = c .before .before .before .before .before .before .before in
-    let c10 = c7 .before .before .before in
-    let c15 = c10 .before .before .before .before .before in
-    let c16 = c15 .before in
-    let indices : List ℕ = take (c16 .args .n) (c16 .args .indices .now) in
-    own-asked (c16 .args .matrix .now) (c16 .args .m) (c16 .args .n) _ _ indices
-    (c16 .pre .0)
-    (filled-back (λ i. i) _ _ _ (c16 .pre .1) (c10 .count-up .ensures))
-    (filled-back (λ i. one) _ _ _ (c16 .pre .1) (c7 .fill .ensures))
-    (length-take-le (c16 .args .n) (c16 .args .indices .now) (c16 .pre .5))
-    (c16 .args .x .now) (c16 .args .numbers .now) (c16 .pre .1) (c16 .pre .2) (c15 .shared-slice-known .given) (c16 .pre .6) (c16 .pre .3) (c16 .pre .4)
+    let at-fill = c .before .before .before .before .before .before .before in
+    let at-count-up = at-fill .before .before .before in
+    let at-shared-slice-known = at-count-up .before .before .before .before .before in
+    let at-start = at-shared-slice-known .before in
+    let indices : List ℕ = take (at-start .args .n) (at-start .args .indices .now) in
+    own-asked (at-start .args .matrix .now) (at-start .args .m) (at-start .args .n) _ _ indices
+    (at-start .pre .0)
+    (filled-back (λ i. i) _ _ _ (at-start .pre .1) (at-count-up .count-up .ensures))
+    (filled-back (λ i. one) _ _ _ (at-start .pre .1) (at-fill .fill .ensures))
+    (length-take-le (at-start .args .n) (at-start .args .indices .now) (at-start .pre .5))
+    (at-start .args .x .now) (at-start .args .numbers .now) (at-start .pre .1) (at-start .pre .2)
+    (at-shared-slice-known .shared-slice-known .given) (at-start .pre .6) (at-start .pre .3) (at-start .pre .4)
 
 same-length : tie.Need-same-length
 same-length c = search needs
@@ -78,20 +86,20 @@ same-length-3 c = search needs
 
 returns : tie.Need-returns
 returns c =
-    let c6 = c .before .before .before .before .before .before in
-    let c7 = c6 .before in
-    let c14 = c7 .before .before .before .before .before .before .before in
-    let c17 = c14 .before .before .before in
-    let c22 = c17 .before .before .before .before .before in
-    let c23 = c22 .before in
-    let indices : List ℕ = take (c23 .args .n) (c23 .args .indices .now) in
-    c6 .coloring .ensures .0
-    ∙ own-left (c23 .args .matrix .now) (c23 .args .m) (c23 .args .n) _ _ indices
-    (c23 .pre .0)
-    (filled-back (λ i. i) _ _ _ (c23 .pre .1) (c17 .count-up .ensures))
-    (filled-back (λ i. one) _ _ _ (c23 .pre .1) (c14 .fill .ensures))
-    (length-take-le (c23 .args .n) (c23 .args .indices .now) (c23 .pre .5))
-    (c22 .shared-slice-known .given) _ _ (c7 .new .ensures)
+    let at-coloring = c .before .before .before .before .before .before in
+    let at-new = at-coloring .before in
+    let at-fill = at-new .before .before .before .before .before .before .before in
+    let at-count-up = at-fill .before .before .before in
+    let at-shared-slice-known = at-count-up .before .before .before .before .before in
+    let at-start = at-shared-slice-known .before in
+    let indices : List ℕ = take (at-start .args .n) (at-start .args .indices .now) in
+    at-coloring .coloring .ensures .0
+    ∙ own-left (at-start .args .matrix .now) (at-start .args .m) (at-start .args .n) _ _ indices
+    (at-start .pre .0)
+    (filled-back (λ i. i) _ _ _ (at-start .pre .1) (at-count-up .count-up .ensures))
+    (filled-back (λ i. one) _ _ _ (at-start .pre .1) (at-fill .fill .ensures))
+    (length-take-le (at-start .args .n) (at-start .args .indices .now) (at-start .pre .5))
+    (at-shared-slice-known .shared-slice-known .given) _ _ (at-new .new .ensures)
 
 pub color-all-spec : {M : Type 1} → statement M
 color-all-spec =

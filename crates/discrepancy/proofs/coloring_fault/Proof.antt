@@ -38,7 +38,8 @@ returns-2 c =
 
 scratch-short-requires : tie.Need-scratch-short-requires
 scratch-short-requires c κs =
-    let s = small (c .before .before .before .before .before .args .m) (c .before .before .before .before .before .args .n) (sym (c .before .before .before .too-large .ensures) ∙ c .before .before .if1 .left) in
+    let s = small (c .before .before .before .before .before .args .m) (c .before .before .before .before .before .args .n)
+    (sym (c .before .before .before .too-large .ensures) ∙ c .before .before .if1 .left) in
     (s .columns, s .rows)
 
 returns-3 : tie.Need-returns-3
@@ -59,24 +60,26 @@ all-bounded-requires c κs = search needs
 
 returns-4 : tie.Need-returns-4
 returns-4 c =
-    let c2 = c .before .before in
-    let c3 = c2 .before in
-    let c4 = c3 .before in
-    let c5 = c4 .before in
-    let c6 = c5 .before in
-    let c7 = c6 .before in
-    granted _ _ _ _ _ _ (sym (c7 .too-large .ensures) ∙ c6 .if1 .left) (c5 .if2 .left) (c4 .if3 .left) (sym (c3 .scratch-short .ensures) ∙ c2 .if4 .left)
+    let at-if4 = c .before .before in
+    let at-scratch-short = at-if4 .before in
+    let at-if3 = at-scratch-short .before in
+    let at-if2 = at-if3 .before in
+    let at-if1 = at-if2 .before in
+    let at-too-large = at-if1 .before in
+    granted _ _ _ _ _ _ (sym (at-too-large .too-large .ensures) ∙ at-if1 .if1 .left) (at-if2 .if2 .left) (at-if3 .if3 .left)
+    (sym (at-scratch-short .scratch-short .ensures) ∙ at-if4 .if4 .left)
     (sym (c .before .all-bounded .ensures) ∙ c .if5 .taken)
 
 returns-5 : tie.Need-returns-5
 returns-5 c =
-    let c2 = c .before .before in
-    let c3 = c2 .before in
-    let c4 = c3 .before in
-    let c5 = c4 .before in
-    let c6 = c5 .before in
-    let c7 = c6 .before in
-    unbounded _ _ _ _ _ _ (sym (c7 .too-large .ensures) ∙ c6 .if1 .left) (c5 .if2 .left) (c4 .if3 .left) (sym (c3 .scratch-short .ensures) ∙ c2 .if4 .left)
+    let at-if4 = c .before .before in
+    let at-scratch-short = at-if4 .before in
+    let at-if3 = at-scratch-short .before in
+    let at-if2 = at-if3 .before in
+    let at-if1 = at-if2 .before in
+    let at-too-large = at-if1 .before in
+    unbounded _ _ _ _ _ _ (sym (at-too-large .too-large .ensures) ∙ at-if1 .if1 .left) (at-if2 .if2 .left) (at-if3 .if3 .left)
+    (sym (at-scratch-short .scratch-short .ensures) ∙ at-if4 .if4 .left)
     (sym (c .before .all-bounded .ensures) ∙ c .if5 .left)
 
 pub coloring-fault-spec : {M : Type 1} → statement M

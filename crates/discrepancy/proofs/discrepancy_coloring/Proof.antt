@@ -1,4 +1,5 @@
--- `discrepancy::discrepancy_coloring` meets its contract: a refusal changes nothing, and else the arguments are `Accepted` and each call leaves its part of the outcome.
+-- `discrepancy::discrepancy_coloring` meets its contract: a refusal changes nothing, and else the arguments are `Accepted` and each call leaves its part
+-- of the outcome.
 use lib.Seq.{length-take-le}
 use Rattle.discrepancy.proofs.Accepted.{accepted}
 use Rattle.discrepancy.proofs.Fronts.{front-back, back-long}
@@ -29,27 +30,32 @@ color-all-requires c κs =
 
 array-share-prefix-x : tie.Need-array-share-prefix-x
 array-share-prefix-x c =
-    let c6 = c .before .before .before .before .before .before in
-    let c10 = c6 .before .before .before .before in
-    let c11 = c10 .before in
-    back-long _ (c6 .color-all .last .1 .1 .1 .1 .0) _ (accepted _ _ _ _ _ _ (sym (c11 .coloring-fault .ensures) ∙ c10 .if1 .left) .columns) (c6 .color-all .kept .1 .1 .1 .1 .0)
+    let at-color-all = c .before .before .before .before .before .before in
+    let at-if1 = at-color-all .before .before .before .before in
+    let at-coloring-fault = at-if1 .before in
+    back-long _ (at-color-all .color-all .last .1 .1 .1 .1 .0) _
+    (accepted _ _ _ _ _ _ (sym (at-coloring-fault .coloring-fault .ensures) ∙ at-if1 .if1 .left) .columns)
+    (at-color-all .color-all .kept .1 .1 .1 .1 .0)
 
 slice-aggregate-write-colours : tie.Need-slice-aggregate-write-colours
 slice-aggregate-write-colours c =
-    let c7 = c .before .before .before .before .before .before .before in
-    let c11 = c7 .before .before .before .before in
-    let c12 = c11 .before in
+    let at-color-all = c .before .before .before .before .before .before .before in
+    let at-if1 = at-color-all .before .before .before .before in
+    let at-coloring-fault = at-if1 .before in
     sym
     (length-take-le _ _
-    (back-long _ (c7 .color-all .last .1 .1 .1 .1 .0) _ (accepted _ _ _ _ _ _ (sym (c12 .coloring-fault .ensures) ∙ c11 .if1 .left) .columns) (c7 .color-all .kept .1 .1 .1 .1 .0)))
+    (back-long _ (at-color-all .color-all .last .1 .1 .1 .1 .0) _
+    (accepted _ _ _ _ _ _ (sym (at-coloring-fault .coloring-fault .ensures) ∙ at-if1 .if1 .left) .columns)
+    (at-color-all .color-all .kept .1 .1 .1 .1 .0)))
 
 write-colours-requires : tie.Need-write-colours-requires
 write-colours-requires c κs =
-    let c7 = c .before .before .before .before .before .before .before in
-    let c11 = c7 .before .before .before .before in
-    let c12 = c11 .before in
-    let a = accepted _ _ _ _ _ _ (sym (c12 .coloring-fault .ensures) ∙ c11 .if1 .left) in
-    a .colours ∙ sym (length-take-le _ _ (back-long _ (c7 .color-all .last .1 .1 .1 .1 .0) _ (a .columns) (c7 .color-all .kept .1 .1 .1 .1 .0)))
+    let at-color-all = c .before .before .before .before .before .before .before in
+    let at-if1 = at-color-all .before .before .before .before in
+    let at-coloring-fault = at-if1 .before in
+    let a = accepted _ _ _ _ _ _ (sym (at-coloring-fault .coloring-fault .ensures) ∙ at-if1 .if1 .left) in
+    a .colours ∙ sym (length-take-le _ _ (back-long _ (at-color-all .color-all .last .1 .1 .1 .1 .0) _ (a .columns)
+    (at-color-all .color-all .kept .1 .1 .1 .1 .0)))
 
 clear-requires : tie.Need-clear-requires
 clear-requires c κs = search needs
@@ -68,22 +74,22 @@ same-length-3 c = search needs
 
 returns-2 : tie.Need-returns-2
 returns-2 c =
-    let c2 = c .before .before in
-    let c6 = c2 .before .before .before .before in
-    let c9 = c6 .before .before .before in
-    let c17 = c9 .before .before .before .before .before .before .before .before in
-    let c21 = c17 .before .before .before .before in
-    let c22 = c21 .before in
-    let e = sym (c22 .coloring-fault .ensures) ∙ c21 .if1 .left in
+    let at-clear-words = c .before .before in
+    let at-clear = at-clear-words .before .before .before .before in
+    let at-write-colours = at-clear .before .before .before in
+    let at-color-all = at-write-colours .before .before .before .before .before .before .before .before in
+    let at-if1 = at-color-all .before .before .before .before in
+    let at-coloring-fault = at-if1 .before in
+    let e = sym (at-coloring-fault .coloring-fault .ensures) ∙ at-if1 .if1 .left in
     let a = accepted _ _ _ _ _ _ e in
-    let x : List Float = c17 .color-all .last .1 .1 .1 .1 .0 in
-    let kept = c17 .color-all .kept .1 .1 .1 .1 in
+    let x : List Float = at-color-all .color-all .last .1 .1 .1 .1 .0 in
+    let kept = at-color-all .color-all .kept .1 .1 .1 .1 in
     coloured _ _ _ _ _ _ _ _ _ _ _ e
-    (front-back _ x _ (a .columns) (kept .0) ∙ c17 .color-all .ensures)
+    (front-back _ x _ (a .columns) (kept .0) ∙ at-color-all .color-all .ensures)
     (length-take-le _ _ (back-long _ x _ (a .columns) (kept .0)))
-    (c9 .write-colours .ensures)
-    (c6 .clear .ensures ∙ rw (kept .1 .0))
-    (c2 .clear-words .ensures ∙ rw (kept .1 .1 .0))
+    (at-write-colours .write-colours .ensures)
+    (at-clear .clear .ensures ∙ rw (kept .1 .0))
+    (at-clear-words .clear-words .ensures ∙ rw (kept .1 .1 .0))
 
 pub discrepancy-coloring-spec : {M : Type 1} → statement M
 discrepancy-coloring-spec =

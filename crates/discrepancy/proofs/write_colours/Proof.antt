@@ -35,7 +35,11 @@ loop-less : tie.Need-loop-less Inv-loop μ-loop
 loop-less c = search needs
 
 loop-again : tie.Need-loop-again Inv-loop μ-loop
-loop-again c = (c .before .before .before .loop .inv .0, turn (c .before .before .before .loop .inv .1) (omega arith) (⊎-elim (λ w. rw (w .1, w .0 .taken)) (λ w. rw (w .1, w .0 .left)) (c .if1 .came)))
+loop-again c = (
+  c .before .before .before .loop .inv .0,
+  turn (c .before .before .before .loop .inv .1) (omega arith)
+      (⊎-elim (λ w. rw (w .1, w .0 .taken)) (λ w. rw (w .1, w .0 .left)) (c .if1 .came)),
+)
 
 same-length : tie.Need-same-length Inv-loop μ-loop
 same-length c = search needs

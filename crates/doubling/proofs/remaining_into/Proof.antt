@@ -5,7 +5,7 @@ use mathlib.Core.Path.{_≡_, refl}
 use mathlib.Core.Logic.{⊎-elim}
 use native.Mathlib.Omega.{arith}
 use lib.ListN.{length, getD, length-set}
-use Rattle.seq.specs.Keep.{Pushed}
+use Rattle.seq.specs.Indices.{Pushed}
 use Rattle.seq.proofs.Keeping.{none, push}
 use Rattle.weights.specs.Weights.{isOn}
 use Rattle.doubling.specs.Doubling.{thoseTo}

@@ -21,7 +21,11 @@ add-e : tie.Need-add-e
 add-e c = omega (arith, c .before .before .before .before .before .before .pre .0 .inside _ (c .before .before .before .before .before .before .pre .2))
 
 mul-add-column : tie.Need-mul-add-column
-mul-add-column c = omega (arith, c .before .before .before .before .before .before .before .pre .0 .inside _ (c .before .before .before .before .before .before .before .pre .2))
+mul-add-column c = omega (
+  arith,
+  c .before .before .before .before .before .before .before .pre .0 .inside _
+      (c .before .before .before .before .before .before .before .pre .2),
+)
 
 sub-add-column : tie.Need-sub-add-column
 sub-add-column c = search needs
@@ -30,7 +34,11 @@ part-add-column-start : tie.Need-part-add-column-start
 part-add-column-start c = search needs
 
 part-add-column-end : tie.Need-part-add-column-end
-part-add-column-end c = omega (arith, c .before .before .before .before .before .before .before .pre .0 .inside _ (c .before .before .before .before .before .before .before .pre .2))
+part-add-column-end c = omega (
+  arith,
+  c .before .before .before .before .before .before .before .pre .0 .inside _
+      (c .before .before .before .before .before .before .before .pre .2),
+)
 
 mul-add-column-2 : tie.Need-mul-add-column-2
 mul-add-column-2 c = search needs

@@ -30,13 +30,25 @@ cast-b : tie.Need-cast-b
 cast-b c = omega (arith, c .shared-slice-known6 .given (c .before .before .before .before .before .before .before .args .q))
 
 mul-b-2 : tie.Need-mul-b-2
-mul-b-2 c = omega (arith, c .before .before .before .before .before .before .before .pre .0 .inside _ (c .before .before .before .before .before .before .before .pre .3))
+mul-b-2 c = omega (
+  arith,
+  c .before .before .before .before .before .before .before .pre .0 .inside _
+      (c .before .before .before .before .before .before .before .pre .3),
+)
 
 add-f : tie.Need-add-f
-add-f c = omega (arith, c .before .before .before .before .before .before .before .pre .0 .inside _ (c .before .before .before .before .before .before .before .pre .3))
+add-f c = omega (
+  arith,
+  c .before .before .before .before .before .before .before .pre .0 .inside _
+      (c .before .before .before .before .before .before .before .pre .3),
+)
 
 mul-add-two : tie.Need-mul-add-two
-mul-add-two c = omega (arith, c .before .before .before .before .before .before .before .before .pre .0 .inside _ (c .before .before .before .before .before .before .before .before .pre .2))
+mul-add-two c = omega (
+  arith,
+  c .before .before .before .before .before .before .before .before .pre .0 .inside _
+      (c .before .before .before .before .before .before .before .before .pre .2),
+)
 
 sub-add-two : tie.Need-sub-add-two
 sub-add-two c = search needs
@@ -45,7 +57,11 @@ part-add-two-start : tie.Need-part-add-two-start
 part-add-two-start c = search needs
 
 part-add-two-end : tie.Need-part-add-two-end
-part-add-two-end c = omega (arith, c .before .before .before .before .before .before .before .before .pre .0 .inside _ (c .before .before .before .before .before .before .before .before .pre .2))
+part-add-two-end c = omega (
+  arith,
+  c .before .before .before .before .before .before .before .before .pre .0 .inside _
+      (c .before .before .before .before .before .before .before .before .pre .2),
+)
 
 mul-add-two-2 : tie.Need-mul-add-two-2
 mul-add-two-2 c = search needs
@@ -60,7 +76,11 @@ shared-slice-read-add-two-2 : tie.Need-shared-slice-read-add-two-2
 shared-slice-read-add-two-2 c = search needs
 
 mul-add-two-4 : tie.Need-mul-add-two-4
-mul-add-two-4 c = omega (arith, c .before .before .before .before .before .before .before .before .before .before .before .pre .0 .inside _ (c .before .before .before .before .before .before .before .before .before .before .before .pre .3))
+mul-add-two-4 c = omega (
+  arith,
+  c .before .before .before .before .before .before .before .before .before .before .before .pre .0 .inside _
+      (c .before .before .before .before .before .before .before .before .before .before .before .pre .3),
+)
 
 sub-add-two-2 : tie.Need-sub-add-two-2
 sub-add-two-2 c = search needs
@@ -69,7 +89,11 @@ part-add-two-start-2 : tie.Need-part-add-two-start-2
 part-add-two-start-2 c = search needs
 
 part-add-two-end-2 : tie.Need-part-add-two-end-2
-part-add-two-end-2 c = omega (arith, c .before .before .before .before .before .before .before .before .before .before .before .pre .0 .inside _ (c .before .before .before .before .before .before .before .before .before .before .before .pre .3))
+part-add-two-end-2 c = omega (
+  arith,
+  c .before .before .before .before .before .before .before .before .before .before .before .pre .0 .inside _
+      (c .before .before .before .before .before .before .before .before .before .before .before .pre .3),
+)
 
 mul-add-two-5 : tie.Need-mul-add-two-5
 mul-add-two-5 c = search needs

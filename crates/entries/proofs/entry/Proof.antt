@@ -22,34 +22,47 @@ cast-at : tie.Need-cast-at
 cast-at c = omega (arith, c .shared-slice-known5 .given (c .before .before .before .before .before .before .args .p))
 
 mul-at-2 : tie.Need-mul-at-2
-mul-at-2 c = omega (arith, c .before .before .before .before .before .before .pre .0 .inside (c .before .before .before .before .before .before .args .p) (c .before .before .before .before .before .before .pre .1))
+mul-at-2 c = omega (
+  arith,
+  c .before .before .before .before .before .before .pre .0 .inside (c .before .before .before .before .before .before .args .p)
+      (c .before .before .before .before .before .before .pre .1),
+)
 
 add-at : tie.Need-add-at
-add-at c = omega (arith, c .before .before .before .before .before .before .pre .0 .inside (c .before .before .before .before .before .before .args .p) (c .before .before .before .before .before .before .pre .1))
+add-at c = omega (
+  arith,
+  c .before .before .before .before .before .before .pre .0 .inside (c .before .before .before .before .before .before .args .p)
+      (c .before .before .before .before .before .before .pre .1),
+)
 
 mul-result : tie.Need-mul-result
-mul-result c = omega (arith, c .before .before .before .before .before .before .pre .0 .inside (c .before .before .before .before .before .before .args .p) (c .before .before .before .before .before .before .pre .1))
+mul-result c = omega (
+  arith,
+  c .before .before .before .before .before .before .pre .0 .inside (c .before .before .before .before .before .before .args .p)
+      (c .before .before .before .before .before .before .pre .1),
+)
 
 shared-slice-read-result : tie.Need-shared-slice-read-result
 shared-slice-read-result c =
-    let c7 = c .before .before .before .before .before .before .before in
-    omega (arith, c7 .pre .0 .inside (c7 .args .p) (c7 .pre .1))
+    let at-start = c .before .before .before .before .before .before .before in
+    omega (arith, at-start .pre .0 .inside (at-start .args .p) (at-start .pre .1))
 
 abs-requires : tie.Need-abs-requires
 abs-requires c κs = search needs
 
 returns : tie.Need-returns
 returns c =
-    let c2 = c .before .before in
-    let c7 = c2 .before .before .before .before .before in
-    let a = c7 .args in
-    sym (entry-own (a .u .now) (a .n) (a .cols .now) (a .scale .now) (a .p) (a .i) (c7 .pre .0 .inside (a .p) (c7 .pre .1)) (c2 .if1 .taken))
+    let at-if1 = c .before .before in
+    let at-start = at-if1 .before .before .before .before .before in
+    let a = at-start .args in
+    sym (entry-own (a .u .now) (a .n) (a .cols .now) (a .scale .now) (a .p) (a .i) (at-start .pre .0 .inside (a .p) (at-start .pre .1)) (at-if1 .if1 .taken))
 
 returns-2 : tie.Need-returns-2
 returns-2 c =
-    let c6 = c .before .before .before .before .before .before in
-    let a = c6 .args in
-    c .abs .ensures ∙ sym (entry-under (a .u .now) (a .n) (a .cols .now) (a .scale .now) (a .p) (a .i) (c6 .pre .0 .inside (a .p) (c6 .pre .1)) (c .before .if1 .left))
+    let at-start = c .before .before .before .before .before .before in
+    let a = at-start .args in
+    c .abs .ensures ∙ sym (entry-under (a .u .now) (a .n) (a .cols .now) (a .scale .now) (a .p) (a .i)
+    (at-start .pre .0 .inside (a .p) (at-start .pre .1)) (c .before .if1 .left))
 
 pub entry-spec : {M : Type 1} → statement M
 entry-spec =

@@ -37,10 +37,18 @@ cast-a : tie.Need-cast-a Inv-loop μ-loop
 cast-a c = omega (arith, c .shared-slice-known4 .given (c .before .before .loop .p))
 
 mul-a-2 : tie.Need-mul-a-2 Inv-loop μ-loop
-mul-a-2 c = omega (arith, c .before .before .before .before .before .before .before .before .before .before .before .pre .inside (c .before .before .loop .p) (c .before .loop-test .taken))
+mul-a-2 c = omega (
+  arith,
+  c .before .before .before .before .before .before .before .before .before .before .before .pre .inside
+      (c .before .before .loop .p) (c .before .loop-test .taken),
+)
 
 add-e : tie.Need-add-e Inv-loop μ-loop
-add-e c = omega (arith, c .before .before .before .before .before .before .before .before .before .before .before .pre .inside (c .before .before .loop .p) (c .before .loop-test .taken))
+add-e c = omega (
+  arith,
+  c .before .before .before .before .before .before .before .before .before .before .before .pre .inside
+      (c .before .before .loop .p) (c .before .loop-test .taken),
+)
 
 mul-s : tie.Need-mul-s Inv-loop μ-loop
 mul-s c = search needs
@@ -50,10 +58,10 @@ shared-slice-read-s c = omega (arith, c .before .before .before .before .before 
 
 mul-add-squares : tie.Need-mul-add-squares Inv-loop μ-loop
 mul-add-squares c =
-    let c3 = c .before .before .before in
-    let c4 = c3 .before in
-    let c13 = c4 .before .before .before .before .before .before .before .before .before in
-    omega (arith, c13 .pre .inside (c4 .loop .p) (c3 .loop-test .taken))
+    let at-loop-test = c .before .before .before in
+    let at-loop = at-loop-test .before in
+    let at-start = at-loop .before .before .before .before .before .before .before .before .before in
+    omega (arith, at-start .pre .inside (at-loop .loop .p) (at-loop-test .loop-test .taken))
 
 sub-add-squares : tie.Need-sub-add-squares Inv-loop μ-loop
 sub-add-squares c = search needs
@@ -63,10 +71,10 @@ part-add-squares-start c = search needs
 
 part-add-squares-end : tie.Need-part-add-squares-end Inv-loop μ-loop
 part-add-squares-end c =
-    let c3 = c .before .before .before in
-    let c4 = c3 .before in
-    let c13 = c4 .before .before .before .before .before .before .before .before .before in
-    omega (arith, c13 .pre .inside (c4 .loop .p) (c3 .loop-test .taken))
+    let at-loop-test = c .before .before .before in
+    let at-loop = at-loop-test .before in
+    let at-start = at-loop .before .before .before .before .before .before .before .before .before in
+    omega (arith, at-start .pre .inside (at-loop .loop .p) (at-loop-test .loop-test .taken))
 
 add-squares-requires : tie.Need-add-squares-requires Inv-loop μ-loop
 add-squares-requires c κs = search needs
@@ -84,7 +92,8 @@ loop-again c =
     let e = entryOf (a .u .now) (a .n) (a .cols .now) (a .scale .now) in (
       omega arith,
       c .before .before .add-squares .kept .0 ∙ l .inv .1,
-      simp add-sub-cancel-left at (c .before .before .add-squares .ensures) ∙ one-more plusZero (λ q i. mul binary64 (e q i) (e q i)) (l .acc) (l .p) _ (l .inv .2),
+      simp add-sub-cancel-left at (c .before .before .add-squares .ensures) ∙ one-more plusZero
+          (λ q i. mul binary64 (e q i) (e q i)) (l .acc) (l .p) _ (l .inv .2),
     )
 
 same-length : tie.Need-same-length Inv-loop μ-loop

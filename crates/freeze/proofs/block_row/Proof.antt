@@ -16,7 +16,8 @@ same-length-2 : tie.Need-same-length-2
 same-length-2 c = search needs
 
 returns : tie.Need-returns
-returns c = rw (← c .before .before .before .before .before .before .before .before .before .row-into .ensures) (c .before .before .before .before .insert .ensures)
+returns c = rw (← c .before .before .before .before .before .before .before .before .before .row-into .ensures)
+    (c .before .before .before .before .insert .ensures)
 
 pub block-row-spec : {M : Type 1} → statement M
 block-row-spec =

@@ -27,9 +27,11 @@ same-length-2 c = search needs
 
 returns : tie.Need-returns
 returns c =
-    let c10 = c .before .before .before .before .before .before .before .before .before .before in
-    let a = c10 .args in
-    all-blocked _ _ (a .num .now) (a .blocked .now) _ (c .before .worst .result) (worst-is (entryOf (a .u .now) (a .n) (a .cols .now) (a .scale .now)) (length (a .cols .now)) (a .num .now) (a .blocked .now) (a .count) _ (omega arith) (c .before .worst .ensures)) (c .if1 .taken)
+    let at-start = c .before .before .before .before .before .before .before .before .before .before in
+    let a = at-start .args in
+    all-blocked _ _ (a .num .now) (a .blocked .now) _ (c .before .worst .result)
+    (worst-is (entryOf (a .u .now) (a .n) (a .cols .now) (a .scale .now)) (length (a .cols .now)) (a .num .now)
+    (a .blocked .now) (a .count) _ (omega arith) (c .before .worst .ensures)) (c .if1 .taken)
 
 same-length-3 : tie.Need-same-length-3
 same-length-3 c = search needs
@@ -83,15 +85,17 @@ same-length-7 c = search needs
 
 returns-3 : tie.Need-returns-3
 returns-3 c =
-    let c4 = c .before .before .before .before in
-    let c7 = c4 .before .before .before in
-    let c8 = c7 .before in
-    let c9 = c8 .before in
-    let c18 = c9 .before .before .before .before .before .before .before .before .before in
-    let a = c18 .args in
+    let at-block-row = c .before .before .before .before in
+    let at-if2 = at-block-row .before .before .before in
+    let at-if1 = at-if2 .before in
+    let at-worst = at-if1 .before in
+    let at-start = at-worst .before .before .before .before .before .before .before .before .before in
+    let a = at-start .args in
     let e = entryOf (a .u .now) (a .n) (a .cols .now) (a .scale .now) in
-    blocks e (length (a .cols .now)) (a .num .now) (a .blocked .now) (a .count) (c9 .worst .result) (c4 .block-row .result) (c4 .block-row .last .0)
-    (worst-is e (length (a .cols .now)) (a .num .now) (a .blocked .now) (a .count) _ (omega arith) (c9 .worst .ensures)) (c8 .if1 .left) (c7 .if2 .left) (omega arith) (c4 .block-row .ensures)
+    blocks e (length (a .cols .now)) (a .num .now) (a .blocked .now) (a .count) (at-worst .worst .result)
+    (at-block-row .block-row .result) (at-block-row .block-row .last .0)
+    (worst-is e (length (a .cols .now)) (a .num .now) (a .blocked .now) (a .count) _ (omega arith) (at-worst .worst .ensures))
+    (at-if1 .if1 .left) (at-if2 .if2 .left) (omega arith) (at-block-row .block-row .ensures)
 
 pub block-worst-spec : {M : Type 1} → statement M
 block-worst-spec =

@@ -23,7 +23,8 @@ abbrev μ-loop : tie.MeasureT-loop
 loop-holds : tie.Need-loop-holds Inv-loop μ-loop
 loop-holds c =
     let a = c .before .before .before .before .before .before .before .before .args in
-    freezing-start _ _ (a .num .now) (a .blocked .now) (a .x .now) (a .free .now) (a .v .now) _ _ (c .before .before .before .before .before .before .before .before .pre .1)
+    freezing-start _ _ (a .num .now) (a .blocked .now) (a .x .now) (a .free .now) (a .v .now) _ _
+    (c .before .before .before .before .before .before .before .before .pre .1)
 
 mul-if1 : tie.Need-mul-if1 Inv-loop μ-loop
 mul-if1 c = search needs
@@ -42,7 +43,8 @@ abs-requires c κs = search needs
 
 freeze-at-requires : tie.Need-freeze-at-requires Inv-loop μ-loop
 freeze-at-requires c κs =
-    let p = c .before .before .before .before .before .before .before .before .before .before .before .before .before .before .before .before .before .before .before .before .pre in
+    let p = c .before .before .before .before .before .before .before .before .before .before .before .before .before .before
+    .before .before .before .before .before .before .pre in
     let i = c .before .before .before .before .before .before .before .before .before .before .before .loop .inv in
     (rw (i .rows) (p .0), i .roomy, i .vs ∙ p .2, c .before .before .before .before .before .before .before .before .before .before .loop-test .taken)
 
@@ -57,24 +59,30 @@ loop-less c = search needs
 
 loop-again : tie.Need-loop-again Inv-loop μ-loop
 loop-again c =
-    let c2 = c .before .before in
-    let c3 = c2 .before in
-    let c12 = c3 .before .before .before .before .before .before .before .before .before in
-    let a = c12 .args in
-    let s = c3 .loop in
+    let at-loop-test = c .before .before in
+    let at-loop = at-loop-test .before in
+    let at-start = at-loop .before .before .before .before .before .before .before .before .before in
+    let a = at-start .args in
+    let s = at-loop .loop in
     let e = entryOf (a .u .now) (a .n) (a .cols .now) (a .scale .now) in
     let l = length (a .cols .now) in
     ⊎-elim
     (λ w. rw (w .20, w .21, w .22, w .23, w .24, w .25, w .26)
-    (freezing-one e l (a .num .now) (a .blocked .now) (a .x .now) (a .free .now) (a .v .now) (a .from .count) (a .from .frozen) (s .num) (s .blocked) (s .x) (s .free) (s .v) (s .count) (s .frozen) (s .p) (s .inv) (c2 .loop-test .taken) _ _ _ _ _ _
+    (freezing-one e l (a .num .now) (a .blocked .now) (a .x .now) (a .free .now) (a .v .now)
+    (a .from .count) (a .from .frozen) (s .num) (s .blocked) (s .x) (s .free) (s .v)
+    (s .count) (s .frozen) (s .p) (s .inv) (at-loop-test .loop-test .taken) _ _ _ _ _ _
     (freezes-near (s .num) (s .blocked) (s .x) (s .free) (s .count) (s .frozen) (s .p) (w .2 .result) (w .0 .taken) (w .2 .ensures) (w .3 .taken))
     (w .9 .kept .0) (w .9 .kept .1 .1 .0) (w .9 .kept .1 .1 .1 .0) (w .9 .kept .1 .1 .1 .1 .0) (w .9 .kept .1 .1 .1 .1 .1 .1 .1 .1 .1 .1 .0) (w .9 .ensures)))
     (⊎-elim
     (λ w. rw (w .4, w .5, w .6, w .7, w .8, w .9, w .10)
-    (freezing-none e l (a .num .now) (a .blocked .now) (a .x .now) (a .free .now) (a .v .now) (a .from .count) (a .from .frozen) (s .num) (s .blocked) (s .x) (s .free) (s .v) (s .count) (s .frozen) (s .p) (s .inv) (c2 .loop-test .taken)
+    (freezing-none e l (a .num .now) (a .blocked .now) (a .x .now) (a .free .now) (a .v .now)
+    (a .from .count) (a .from .frozen) (s .num) (s .blocked) (s .x) (s .free) (s .v)
+    (s .count) (s .frozen) (s .p) (s .inv) (at-loop-test .loop-test .taken)
     (freezes-far (s .num) (s .blocked) (s .x) (s .free) (s .count) (s .frozen) (s .p) (w .2 .result) (w .0 .taken) (w .2 .ensures) (w .3 .left))))
     (λ w. rw (w .1, w .2, w .3, w .4, w .5, w .6, w .7)
-    (freezing-none e l (a .num .now) (a .blocked .now) (a .x .now) (a .free .now) (a .v .now) (a .from .count) (a .from .frozen) (s .num) (s .blocked) (s .x) (s .free) (s .v) (s .count) (s .frozen) (s .p) (s .inv) (c2 .loop-test .taken)
+    (freezing-none e l (a .num .now) (a .blocked .now) (a .x .now) (a .free .now) (a .v .now)
+    (a .from .count) (a .from .frozen) (s .num) (s .blocked) (s .x) (s .free) (s .v)
+    (s .count) (s .frozen) (s .p) (s .inv) (at-loop-test .loop-test .taken)
     (freezes-not (s .num) (s .blocked) (s .x) (s .free) (s .count) (s .frozen) (s .p) (w .0 .left)))))
     (c .if1 .came)
 
@@ -95,11 +103,13 @@ same-length-5 c = search needs
 
 returns : tie.Need-returns Inv-loop μ-loop
 returns c =
-    let c10 = c .before .before .before .before .before .before .before .before .before .before in
-    let a = c10 .args in
+    let at-start = c .before .before .before .before .before .before .before .before .before .before in
+    let a = at-start .args in
     let s = c .before .loop in
     let done : s .p ≡ length (a .cols .now) = omega (arith, s .inv .upto) in
-    λ rng. s .inv .holds rng ∙ ap (freezeTo plusZero (entryOf (a .u .now) (a .n) (a .cols .now) (a .scale .now)) (length (a .cols .now)) (length (a .blocked .now)) (held (a .num .now) (a .blocked .now) (a .x .now) (a .free .now) (a .from .count) (a .from .frozen) rng)) done
+    λ rng. s .inv .holds rng ∙ ap (freezeTo plusZero (entryOf (a .u .now) (a .n) (a .cols .now) (a .scale .now))
+    (length (a .cols .now)) (length (a .blocked .now))
+    (held (a .num .now) (a .blocked .now) (a .x .now) (a .free .now) (a .from .count) (a .from .frozen) rng)) done
 
 pub freeze-spec : {M : Type 1} → statement M
 freeze-spec =

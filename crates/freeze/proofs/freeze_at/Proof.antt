@@ -58,13 +58,16 @@ insert-requires c κs = search needs
 
 block-worst-requires : tie.Need-block-worst-requires
 block-worst-requires c κs =
-    let c7 = c .before .before .before .before .before .before .before in
-    let c12 = c7 .before .before .before .before .before in
-    let c24 = c12 .before .before .before .before .before .before .before .before .before .before .before .before in
-    let a = c24 .args in
-    let p = c24 .pre in
-    let r = room-after (entryOf (a .u .now) (a .n) (a .cols .now) (a .scale .now)) (length (a .cols .now)) (a .num .now) (a .blocked .now) (a .x .now) (a .free .now) (a .count) (a .p) (c7 .insert .result) 0 nan (c7 .insert .last .0) [] [] (p .1) (c12 .axis-into .last .0) (c7 .insert .kept .0) (c7 .insert .ensures) in
-    (p .0, c7 .insert .kept .1 .1 .1 .0 ∙ c12 .axis-into .kept .0 ∙ p .2, r .0, r .1)
+    let at-insert = c .before .before .before .before .before .before .before in
+    let at-axis-into = at-insert .before .before .before .before .before in
+    let at-start = at-axis-into .before .before .before .before .before .before .before .before .before .before .before .before in
+    let a = at-start .args in
+    let p = at-start .pre in
+    let r = room-after (entryOf (a .u .now) (a .n) (a .cols .now) (a .scale .now)) (length (a .cols .now)) (a .num .now)
+    (a .blocked .now) (a .x .now) (a .free .now) (a .count) (a .p) (at-insert .insert .result) 0 nan
+    (at-insert .insert .last .0) [] [] (p .1) (at-axis-into .axis-into .last .0) (at-insert .insert .kept .0)
+    (at-insert .insert .ensures) in
+    (p .0, at-insert .insert .kept .1 .1 .1 .0 ∙ at-axis-into .axis-into .kept .0 ∙ p .2, r .0, r .1)
 
 same-length : tie.Need-same-length
 same-length c = search needs
@@ -83,15 +86,20 @@ same-length-5 c = search needs
 
 returns : tie.Need-returns
 returns c =
-    let c6 = c .before .before .before .before .before .before in
-    let c14 = c6 .before .before .before .before .before .before .before .before in
-    let c19 = c14 .before .before .before .before .before in
-    let c21 = c19 .before .before in
-    let c31 = c21 .before .before .before .before .before .before .before .before .before .before in
-    let a = c31 .args in
-    let p = c31 .pre in
-    freezes-at (entryOf (a .u .now) (a .n) (a .cols .now) (a .scale .now)) (length (a .cols .now)) (a .num .now) (a .blocked .now) (a .x .now) (a .free .now) (a .count) (a .p) (c14 .insert .result) (c6 .block-worst .result) (c21 .signum .result) (c14 .insert .last .0) (c6 .block-worst .last .0) (c6 .block-worst .last .1 .1 .0) (p .1)
-    (c19 .axis-into .last .0) (c19 .axis-into .ensures ∙ ap (λ (k : ℕ). axis k (a .p)) (p .2)) (c21 .signum .ensures) (c14 .insert .ensures) (c6 .block-worst .ensures) (c6 .block-worst .kept .1 .1 .0)
+    let at-block-worst = c .before .before .before .before .before .before in
+    let at-insert = at-block-worst .before .before .before .before .before .before .before .before in
+    let at-axis-into = at-insert .before .before .before .before .before in
+    let at-signum = at-axis-into .before .before in
+    let at-start = at-signum .before .before .before .before .before .before .before .before .before .before in
+    let a = at-start .args in
+    let p = at-start .pre in
+    freezes-at (entryOf (a .u .now) (a .n) (a .cols .now) (a .scale .now)) (length (a .cols .now)) (a .num .now) (a .blocked .now)
+    (a .x .now) (a .free .now) (a .count) (a .p) (at-insert .insert .result) (at-block-worst .block-worst .result)
+    (at-signum .signum .result) (at-insert .insert .last .0) (at-block-worst .block-worst .last .0)
+    (at-block-worst .block-worst .last .1 .1 .0) (p .1)
+    (at-axis-into .axis-into .last .0) (at-axis-into .axis-into .ensures ∙ ap (λ (k : ℕ). axis k (a .p)) (p .2))
+    (at-signum .signum .ensures) (at-insert .insert .ensures) (at-block-worst .block-worst .ensures)
+    (at-block-worst .block-worst .kept .1 .1 .0)
 
 pub freeze-at-spec : {M : Type 1} → statement M
 freeze-at-spec =

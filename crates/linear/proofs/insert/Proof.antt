@@ -22,9 +22,9 @@ returns-2 c = dropped-zero (rw (← c .before .norm .ensures) (c .if2 .taken))
 
 project-out-requires : tie.Need-project-out-requires
 project-out-requires c κs =
-    let c5 = c .before .before .before .before .before in
-    let c8 = c5 .before .before .before in
-    (c8 .pre .0, omega (arith, room (c8 .args .count) (c8 .args .l) (c8 .args .l) (c5 .if1 .left)))
+    let at-if1 = c .before .before .before .before .before in
+    let at-start = at-if1 .before .before .before in
+    (at-start .pre .0, omega (arith, room (at-start .args .count) (at-start .args .l) (at-start .args .l) (at-if1 .if1 .left)))
 
 norm-requires-2 : tie.Need-norm-requires-2
 norm-requires-2 c κs = search needs
@@ -38,26 +38,31 @@ same-length-3 c = search needs
 returns-3 : tie.Need-returns-3
 returns-3 c =
     dropped-small
-    (rw (← c .before .before .before .before .before .before .before .before .before .norm .ensures) (c .before .before .before .before .before .before .before .before .if2 .left))
-    (rw (← c .before .before .before .before .before .project-out .ensures, ← c .before .norm2 .ensures, ← c .before .before .before .before .before .before .before .before .before .norm .ensures) (c .if3 .taken))
+    (rw (← c .before .before .before .before .before .before .before .before .before .norm .ensures)
+    (c .before .before .before .before .before .before .before .before .if2 .left))
+    (rw (
+      ← c .before .before .before .before .before .project-out .ensures,
+      ← c .before .norm2 .ensures,
+      ← c .before .before .before .before .before .before .before .before .before .norm .ensures,
+    ) (c .if3 .taken))
 
 mul-end : tie.Need-mul-end
 mul-end c =
-    let c11 = c .before .before .before .before .before .before .before .before .before .before .before in
-    let c14 = c11 .before .before .before in
-    omega (arith, room (c14 .args .count) (c14 .args .l) (c14 .args .l) (c11 .if1 .left))
+    let at-if1 = c .before .before .before .before .before .before .before .before .before .before .before in
+    let at-start = at-if1 .before .before .before in
+    omega (arith, room (at-start .args .count) (at-start .args .l) (at-start .args .l) (at-if1 .if1 .left))
 
 add-stop : tie.Need-add-stop
 add-stop c =
-    let c11 = c .before .before .before .before .before .before .before .before .before .before .before in
-    let c14 = c11 .before .before .before in
-    omega (arith, room (c14 .args .count) (c14 .args .l) (c14 .args .l) (c11 .if1 .left))
+    let at-if1 = c .before .before .before .before .before .before .before .before .before .before .before in
+    let at-start = at-if1 .before .before .before in
+    omega (arith, room (at-start .args .count) (at-start .args .l) (at-start .args .l) (at-if1 .if1 .left))
 
 mul-over : tie.Need-mul-over
 mul-over c =
-    let c11 = c .before .before .before .before .before .before .before .before .before .before .before in
-    let c14 = c11 .before .before .before in
-    omega (arith, room (c14 .args .count) (c14 .args .l) (c14 .args .l) (c11 .if1 .left))
+    let at-if1 = c .before .before .before .before .before .before .before .before .before .before .before in
+    let at-start = at-if1 .before .before .before in
+    omega (arith, room (at-start .args .count) (at-start .args .l) (at-start .args .l) (at-if1 .if1 .left))
 
 sub-over : tie.Need-sub-over
 sub-over c = search needs
@@ -67,9 +72,9 @@ part-over-start c = search needs
 
 part-over-end : tie.Need-part-over-end
 part-over-end c =
-    let c11 = c .before .before .before .before .before .before .before .before .before .before .before in
-    let c14 = c11 .before .before .before in
-    omega (arith, room (c14 .args .count) (c14 .args .l) (c14 .args .l) (c11 .if1 .left))
+    let at-if1 = c .before .before .before .before .before .before .before .before .before .before .before in
+    let at-start = at-if1 .before .before .before in
+    omega (arith, room (at-start .args .count) (at-start .args .l) (at-start .args .l) (at-if1 .if1 .left))
 
 over-requires : tie.Need-over-requires
 over-requires c κs = search needs
@@ -86,20 +91,20 @@ same-length-5 c = search needs
 returns-4 : tie.Need-returns-4
 unfolding unit
 returns-4 c =
-    let c2 = c .before .before in
-    let c5 = c2 .before .before .before in
-    let c6 = c5 .before in
-    let c10 = c6 .before .before .before .before in
-    let c13 = c10 .before .before .before in
-    let c14 = c13 .before in
-    let c16 = c14 .before .before in
-    let c19 = c16 .before .before .before in
-    kept (c16 .if1 .left)
-    (rw (← c14 .norm .ensures) (c13 .if2 .left))
-    (rw (← c10 .project-out .ensures, ← c6 .norm2 .ensures, ← c14 .norm .ensures) (c5 .if3 .left))
-    (c19 .pre .0)
-    (c19 .pre .1)
-    (simp (add-sub-cancel-left, c2 .over .ensures, c6 .norm2 .ensures, c10 .project-out .ensures))
+    let at-over = c .before .before in
+    let at-if3 = at-over .before .before .before in
+    let at-norm2 = at-if3 .before in
+    let at-project-out = at-norm2 .before .before .before .before in
+    let at-if2 = at-project-out .before .before .before in
+    let at-norm = at-if2 .before in
+    let at-if1 = at-norm .before .before in
+    let at-start = at-if1 .before .before .before in
+    kept (at-if1 .if1 .left)
+    (rw (← at-norm .norm .ensures) (at-if2 .if2 .left))
+    (rw (← at-project-out .project-out .ensures, ← at-norm2 .norm2 .ensures, ← at-norm .norm .ensures) (at-if3 .if3 .left))
+    (at-start .pre .0)
+    (at-start .pre .1)
+    (simp (add-sub-cancel-left, at-over .over .ensures, at-norm2 .norm2 .ensures, at-project-out .project-out .ensures))
 
 pub insert-spec : {M : Type 1} → statement M
 insert-spec =

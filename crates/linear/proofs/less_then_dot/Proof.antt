@@ -59,7 +59,11 @@ loop-again c =
     let l = c .before .before .before .before .loop in
     let v = l .inv .0 in (
       turn v (omega arith) (rw (still v (omega arith) nan)),
-      rw (sum-more binary64 plusZero (λ j. mul binary64 (at (a .r .now) j) (lessAt (a .c) (a .q .now) (a .v .now) j)) (l .i), ← l .inv .1, still v (omega arith) nan),
+      rw (
+        sum-more binary64 plusZero (λ j. mul binary64 (at (a .r .now) j) (lessAt (a .c) (a .q .now) (a .v .now) j)) (l .i),
+        ← l .inv .1,
+        still v (omega arith) nan,
+      ),
     )
 
 same-length : tie.Need-same-length Inv-loop μ-loop
@@ -72,7 +76,9 @@ returns c =
     let l = c .before .loop in
     let all : l .i ≡ length (a .r .now) = omega (arith, c .before .before .pre .0, c .before .before .pre .1, l .inv .0 .long, l .inv .0 .upto) in (
       whole (l .inv .0) (omega arith),
-      l .inv .1 ∙ rw all (sum-cong binary64 plusZero _ _ (length (a .r .now)) (λ j h. ap (mul binary64 (at (a .r .now) j)) (sym (getD-tab (lessAt (a .c) (a .q .now) (a .v .now)) (length (a .v .now)) j nan (omega arith))))),
+      l .inv .1 ∙ rw all (sum-cong binary64 plusZero _ _ (length (a .r .now))
+          (λ j h. ap (mul binary64 (at (a .r .now) j))
+          (sym (getD-tab (lessAt (a .c) (a .q .now) (a .v .now)) (length (a .v .now)) j nan (omega arith))))),
     )
 
 pub less-then-dot-spec : {M : Type 1} → statement M

@@ -47,9 +47,10 @@ loop-less c = omega (arith, c .next-larger2 .ensures .low)
 
 loop-again : tie.Need-loop-again Inv-loop μ-loop
 loop-again c =
-    let c5 = c .before .before .before .before .before in
-    let v = at (c5 .before .before .before .args .a .now) in
-    let here : c .before .larger .result ≡ maxAbsTo v (c5 .loop .i + 1) = c .before .larger .ensures ∙ rw (add-one, max-more, c5 .loop .inv .1, c .before .before .abs .ensures) in
+    let at-loop = c .before .before .before .before .before in
+    let v = at (at-loop .before .before .before .args .a .now) in
+    let here : c .before .larger .result ≡ maxAbsTo v (at-loop .loop .i + 1) =
+    c .before .larger .ensures ∙ rw (add-one, max-more, at-loop .loop .inv .1, c .before .before .abs .ensures) in
     (c .next-larger2 .ensures .inside (omega arith), max-passed (c .next-larger2 .ensures) here)
 
 returns : tie.Need-returns Inv-loop μ-loop

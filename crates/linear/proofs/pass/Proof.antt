@@ -28,36 +28,60 @@ unfolding passTo
 returns c = sym (ap (passTo plusZero _ _) (c .if1 .taken))
 
 slice-aggregate-dot : tie.Need-slice-aggregate-dot Inv-loop μ-loop
-slice-aggregate-dot c = sym (length-take-le _ _ (omega (arith, room 0 (c .before .before .before .before .args .count) (c .before .before .before .before .args .l) (omega arith))))
+slice-aggregate-dot c = sym (length-take-le _ _ (omega (
+  arith,
+  room 0 (c .before .before .before .before .args .count) (c .before .before .before .before .args .l) (omega arith),
+)))
 
 dot-requires : tie.Need-dot-requires Inv-loop μ-loop
 dot-requires c κs =
-    let c5 = c .before .before .before .before .before in
-    omega (arith, length-take-le (c5 .args .l) (c5 .args .basis .now) (omega (arith, room 0 (c5 .args .count) (c5 .args .l) (omega arith))))
+    let at-start = c .before .before .before .before .before in
+    omega (
+      arith,
+      length-take-le (at-start .args .l) (at-start .args .basis .now)
+          (omega (arith, room 0 (at-start .args .count) (at-start .args .l) (omega arith))),
+    )
 
 loop-holds : tie.Need-loop-holds Inv-loop μ-loop
 unfolding passTo
 loop-holds c =
-    let a = c .before .before .before .before .before .before .args in
-    (omega arith, c .before .before .before .before .before .before .pre .0, refl, c .dot .ensures ∙ ap (λ (x : ℕ). dotOf plusZero (take (a .l) (drop x (a .basis .now))) (a .v .now)) (sym (zero-mul (a .l))))
+    let a = c .before .before .before .before .before .before .args in (
+      omega arith,
+      c .before .before .before .before .before .before .pre .0,
+      refl,
+      c .dot .ensures ∙ ap (λ (x : ℕ). dotOf plusZero (take (a .l) (drop x (a .basis .now))) (a .v .now))
+          (sym (zero-mul (a .l))),
+    )
 
 add-loop : tie.Need-add-loop Inv-loop μ-loop
 add-loop c = search needs
 
 mul-a : tie.Need-mul-a Inv-loop μ-loop
-mul-a c = omega (arith, room (c .before .loop .k + 1) (c .before .before .before .before .before .before .before .before .args .count) (c .before .before .before .before .before .before .before .before .args .l) (c .loop-test .taken))
+mul-a c = omega (
+  arith,
+  room (c .before .loop .k + 1) (c .before .before .before .before .before .before .before .before .args .count)
+      (c .before .before .before .before .before .before .before .before .args .l) (c .loop-test .taken),
+)
 
 add-m : tie.Need-add-m Inv-loop μ-loop
-add-m c = omega (arith, room (c .before .loop .k + 1) (c .before .before .before .before .before .before .before .before .args .count) (c .before .before .before .before .before .before .before .before .args .l) (c .loop-test .taken))
+add-m c = omega (
+  arith,
+  room (c .before .loop .k + 1) (c .before .before .before .before .before .before .before .before .args .count)
+      (c .before .before .before .before .before .before .before .before .args .l) (c .loop-test .taken),
+)
 
 add-e : tie.Need-add-e Inv-loop μ-loop
-add-e c = omega (arith, room (c .before .loop .k + 1) (c .before .before .before .before .before .before .before .before .args .count) (c .before .before .before .before .before .before .before .before .args .l) (c .loop-test .taken))
+add-e c = omega (
+  arith,
+  room (c .before .loop .k + 1) (c .before .before .before .before .before .before .before .before .args .count)
+      (c .before .before .before .before .before .before .before .before .args .l) (c .loop-test .taken),
+)
 
 mul-less-then-dot : tie.Need-mul-less-then-dot Inv-loop μ-loop
 mul-less-then-dot c =
-    let c2 = c .before .before in
-    let c9 = c2 .before .before .before .before .before .before .before in
-    omega (arith, room (c2 .loop .k + 1) (c9 .args .count) (c9 .args .l) (c .before .loop-test .taken))
+    let at-loop = c .before .before in
+    let at-start = at-loop .before .before .before .before .before .before .before in
+    omega (arith, room (at-loop .loop .k + 1) (at-start .args .count) (at-start .args .l) (c .before .loop-test .taken))
 
 sub-less-then-dot : tie.Need-sub-less-then-dot Inv-loop μ-loop
 sub-less-then-dot c = search needs
@@ -67,16 +91,16 @@ part-less-then-dot-start c = search needs
 
 part-less-then-dot-end : tie.Need-part-less-then-dot-end Inv-loop μ-loop
 part-less-then-dot-end c =
-    let c2 = c .before .before in
-    let c9 = c2 .before .before .before .before .before .before .before in
-    omega (arith, room (c2 .loop .k + 1) (c9 .args .count) (c9 .args .l) (c .before .loop-test .taken))
+    let at-loop = c .before .before in
+    let at-start = at-loop .before .before .before .before .before .before .before in
+    omega (arith, room (at-loop .loop .k + 1) (at-start .args .count) (at-start .args .l) (c .before .loop-test .taken))
 
 mul-less-then-dot-2 : tie.Need-mul-less-then-dot-2 Inv-loop μ-loop
 mul-less-then-dot-2 c =
-    let c2 = c .before .before in
-    let c3 = c2 .before in
-    let c10 = c3 .before .before .before .before .before .before .before in
-    omega (arith, room (c3 .loop .k + 1) (c10 .args .count) (c10 .args .l) (c2 .loop-test .taken))
+    let at-loop-test = c .before .before in
+    let at-loop = at-loop-test .before in
+    let at-start = at-loop .before .before .before .before .before .before .before in
+    omega (arith, room (at-loop .loop .k + 1) (at-start .args .count) (at-start .args .l) (at-loop-test .loop-test .taken))
 
 sub-less-then-dot-2 : tie.Need-sub-less-then-dot-2 Inv-loop μ-loop
 sub-less-then-dot-2 c = search needs
@@ -86,10 +110,10 @@ part-less-then-dot-start-2 c = search needs
 
 part-less-then-dot-end-2 : tie.Need-part-less-then-dot-end-2 Inv-loop μ-loop
 part-less-then-dot-end-2 c =
-    let c2 = c .before .before in
-    let c3 = c2 .before in
-    let c10 = c3 .before .before .before .before .before .before .before in
-    omega (arith, room (c3 .loop .k + 1) (c10 .args .count) (c10 .args .l) (c2 .loop-test .taken))
+    let at-loop-test = c .before .before in
+    let at-loop = at-loop-test .before in
+    let at-start = at-loop .before .before .before .before .before .before .before in
+    omega (arith, room (at-loop .loop .k + 1) (at-start .args .count) (at-start .args .l) (at-loop-test .loop-test .taken))
 
 less-then-dot-requires : tie.Need-less-then-dot-requires Inv-loop μ-loop
 less-then-dot-requires c κs = search needs
@@ -115,16 +139,24 @@ loop-again c =
     )
 
 mul-a-2 : tie.Need-mul-a-2 Inv-loop μ-loop
-mul-a-2 c = omega (arith, room (c .before .loop .k) (c .before .before .before .before .before .before .before .before .args .count) (c .before .before .before .before .before .before .before .before .args .l) (c .before .loop .inv .0))
+mul-a-2 c = omega (
+  arith,
+  room (c .before .loop .k) (c .before .before .before .before .before .before .before .before .args .count)
+      (c .before .before .before .before .before .before .before .before .args .l) (c .before .loop .inv .0),
+)
 
 add-e-2 : tie.Need-add-e-2 Inv-loop μ-loop
-add-e-2 c = omega (arith, room (c .before .loop .k) (c .before .before .before .before .before .before .before .before .args .count) (c .before .before .before .before .before .before .before .before .args .l) (c .before .loop .inv .0))
+add-e-2 c = omega (
+  arith,
+  room (c .before .loop .k) (c .before .before .before .before .before .before .before .before .args .count)
+      (c .before .before .before .before .before .before .before .before .args .l) (c .before .loop .inv .0),
+)
 
 mul-less-scaled : tie.Need-mul-less-scaled Inv-loop μ-loop
 mul-less-scaled c =
-    let c2 = c .before .before in
-    let c9 = c2 .before .before .before .before .before .before .before in
-    omega (arith, room (c2 .loop .k) (c9 .args .count) (c9 .args .l) (c2 .loop .inv .0))
+    let at-loop = c .before .before in
+    let at-start = at-loop .before .before .before .before .before .before .before in
+    omega (arith, room (at-loop .loop .k) (at-start .args .count) (at-start .args .l) (at-loop .loop .inv .0))
 
 sub-less-scaled : tie.Need-sub-less-scaled Inv-loop μ-loop
 sub-less-scaled c = search needs
@@ -134,9 +166,9 @@ part-less-scaled-start c = search needs
 
 part-less-scaled-end : tie.Need-part-less-scaled-end Inv-loop μ-loop
 part-less-scaled-end c =
-    let c2 = c .before .before in
-    let c9 = c2 .before .before .before .before .before .before .before in
-    omega (arith, room (c2 .loop .k) (c9 .args .count) (c9 .args .l) (c2 .loop .inv .0))
+    let at-loop = c .before .before in
+    let at-start = at-loop .before .before .before .before .before .before .before in
+    omega (arith, room (at-loop .loop .k) (at-start .args .count) (at-start .args .l) (at-loop .loop .inv .0))
 
 less-scaled-requires : tie.Need-less-scaled-requires Inv-loop μ-loop
 less-scaled-requires c κs = search needs
@@ -149,7 +181,8 @@ returns-2 c =
     let a = c .before .before .before .before .before .before .before .before .before .before .before .before .before .args in
     let l = c .before .before .before .before .before .before .loop in
     let done : l .k + 1 ≡ a .count = omega arith in
-    pass-turn (a .l) (a .count) (l .k) (a .basis .now) (a .v .now) (l .v) _ (l .c) (l .inv .0) (l .inv .2) (l .inv .3) (simp add-sub-cancel-left at (c .before .before .less-scaled .ensures)) ∙ ap (passTo plusZero _ _) done
+    pass-turn (a .l) (a .count) (l .k) (a .basis .now) (a .v .now) (l .v) _ (l .c) (l .inv .0) (l .inv .2) (l .inv .3)
+    (simp add-sub-cancel-left at (c .before .before .less-scaled .ensures)) ∙ ap (passTo plusZero _ _) done
 
 pub pass-spec : {M : Type 1} → statement M
 pass-spec =

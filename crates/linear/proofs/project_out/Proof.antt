@@ -15,10 +15,10 @@ same-length c = search needs
 
 returns : tie.Need-returns
 returns c =
-    let c2 = c .before .before in
-    let c6 = c2 .before .before .before .before in
-    let c10 = c6 .before .before .before .before in
-    let a = c10 .args in two-passes _ (a .l) (a .count) (a .basis .now) (a .v .now) _ _ (c6 .pass .ensures) (c2 .pass2 .ensures)
+    let at-pass2 = c .before .before in
+    let at-pass = at-pass2 .before .before .before .before in
+    let at-start = at-pass .before .before .before .before in
+    let a = at-start .args in two-passes _ (a .l) (a .count) (a .basis .now) (a .v .now) _ _ (at-pass .pass .ensures) (at-pass2 .pass2 .ensures)
 
 pub project-out-spec : {M : Type 1} → statement M
 project-out-spec = tie.close (tie.spec pass-requires pass-requires-2 same-length returns)

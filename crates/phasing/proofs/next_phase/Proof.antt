@@ -100,16 +100,26 @@ phase-on-requires c κs =
     let few = places-few (start .args .free .now) _ _ (f .free-places .result) (start .pre .0 .1 .marks) (f .free-places .ensures) in
     let within = f .free-places .ensures .within in
     let long = sym (length-take-le _ _ within) in
-    let b = places-below (start .args .free .now) _ (length (start .args .cols .now)) (f .free-places .result) (start .pre .0 .1 .marks) (f .free-places .ensures) in (
+    let b = places-below (start .args .free .now) _ (length (start .args .cols .now)) (f .free-places .result)
+    (start .pre .0 .1 .marks) (f .free-places .ensures) in (
       (start .pre .0 .0, start .pre .0 .1, b .0, b .1),
-      (length-take-le _ _ (omega (arith, few, start .pre .1 .1)) ∙ long, length-take-le _ _ (omega (arith, few, start .pre .1 .2)) ∙ long, length-take-le _ _ (omega (arith, few, start .pre .1 .3)) ∙ long, length-take-le _ _ (omega (arith, few, start .pre .1 .4)) ∙ long, length-take-le _ _ (omega (arith, few, start .pre .1 .5)) ∙ long),
+      (
+        length-take-le _ _ (omega (arith, few, start .pre .1 .1)) ∙ long,
+        length-take-le _ _ (omega (arith, few, start .pre .1 .2)) ∙ long,
+        length-take-le _ _ (omega (arith, few, start .pre .1 .3)) ∙ long,
+        length-take-le _ _ (omega (arith, few, start .pre .1 .4)) ∙ long,
+        length-take-le _ _ (omega (arith, few, start .pre .1 .5)) ∙ long,
+      ),
     )
 
 round-free-requires : tie.Need-round-free-requires
 round-free-requires c κs =
-    let c22 = c .before .before .before .before .before .before .before .before .before .before .before .before .before .before .before .before .before .before .before .before .before .before in
-    let start = c22 .before .before .before .before .before .before .before .before .before .before .before .before .before .before .before .before .before .before .before .before .before .before .before .before .before .before .before .before .before in
-    c22 .phase-on .kept .1 .1 .1 .0 ∙ start .pre .0 .1 .marks ∙ sym (c22 .phase-on .kept .1 .1 .0 ∙ start .pre .0 .1 .wide)
+    let at-phase-on = c .before .before .before .before .before .before .before .before .before .before .before .before .before
+    .before .before .before .before .before .before .before .before .before in
+    let start = at-phase-on .before .before .before .before .before .before .before .before .before .before .before .before
+    .before .before .before .before .before .before .before .before .before .before .before .before .before .before .before
+    .before .before in
+    at-phase-on .phase-on .kept .1 .1 .1 .0 ∙ start .pre .0 .1 .marks ∙ sym (at-phase-on .phase-on .kept .1 .1 .0 ∙ start .pre .0 .1 .wide)
 
 fill-words-requires : tie.Need-fill-words-requires
 fill-words-requires c κs = search needs
@@ -122,13 +132,17 @@ same-length-2 c = search needs
 
 same-length-3 : tie.Need-same-length-3
 same-length-3 c =
-    let start = c .before .before .before .before .before .before .before .before .before .before .before .before .before .before .before .before .before .before .before .before .before in
-    ⊎-elim (λ w. ap length (w .10) ∙ w .3 .kept .0 ∙ start .phase-on .kept .1 .1 .0) (λ w. ap length (w .1) ∙ start .phase-on .kept .1 .1 .0) (c .before .if1 .came)
+    let start = c .before .before .before .before .before .before .before .before .before .before .before .before .before .before
+    .before .before .before .before .before .before .before in
+    ⊎-elim (λ w. ap length (w .10) ∙ w .3 .kept .0 ∙ start .phase-on .kept .1 .1 .0)
+    (λ w. ap length (w .1) ∙ start .phase-on .kept .1 .1 .0) (c .before .if1 .came)
 
 same-length-4 : tie.Need-same-length-4
 same-length-4 c =
-    let start = c .before .before .before .before .before .before .before .before .before .before .before .before .before .before .before .before .before .before .before .before .before in
-    ⊎-elim (λ w. ap length (w .11) ∙ w .7 .kept .0 ∙ start .phase-on .kept .1 .1 .1 .0) (λ w. ap length (w .2) ∙ start .phase-on .kept .1 .1 .1 .0) (c .before .if1 .came)
+    let start = c .before .before .before .before .before .before .before .before .before .before .before .before .before .before
+    .before .before .before .before .before .before .before in
+    ⊎-elim (λ w. ap length (w .11) ∙ w .7 .kept .0 ∙ start .phase-on .kept .1 .1 .1 .0)
+    (λ w. ap length (w .2) ∙ start .phase-on .kept .1 .1 .1 .0) (c .before .if1 .came)
 
 same-length-5 : tie.Need-same-length-5
 same-length-5 c = search needs
@@ -150,16 +164,21 @@ same-length-10 c = search needs
 
 returns : tie.Need-returns
 returns c =
-    let c21 = c .before .before .before .before .before .before .before .before .before .before .before .before .before .before .before .before .before .before .before .before .before in
-    let c34 = c21 .before .before .before .before .before .before .before .before .before .before .before .before .before in
-    let start = c34 .before .before .before .before .before .before .before .before .before .before .before .before .before .before .before .before in
+    let at-phase-on = c .before .before .before .before .before .before .before .before .before .before .before .before .before
+    .before .before .before .before .before .before .before .before in
+    let at-free-places = at-phase-on .before .before .before .before .before .before .before .before .before .before .before .before .before in
+    let start = at-free-places .before .before .before .before .before .before .before .before .before .before .before .before
+    .before .before .before .before in
     let a = start .args in
     let m = entryOf (a .u .now) (a .n) (a .cols .now) (a .scale .now) in
     let k = length (a .cols .now) in
-    let is = c34 .free-places .ensures .front ∙ ap (keep (isSet (a .free .now))) (start .pre .0 .1 .marks) in
+    let is = at-free-places .free-places .ensures .front ∙ ap (keep (isSet (a .free .now))) (start .pre .0 .1 .marks) in
     ⊎-elim
-    (λ w. phase-rounds m k (length (a .blocked .now)) (a .rng .state) (a .num .now) (a .x .now) (a .free .now) _ _ _ _ _ _ is (c21 .phase-on .ensures) (c .before .if1 .x) (c .before .if1 .free) (w .0 .taken) (w .10 ∙ w .3 .ensures) (w .11 ∙ w .7 .ensures))
-    (λ w. rw (w .1, w .2) (phase-goes m k (length (a .blocked .now)) (a .rng .state) (a .num .now) (a .x .now) (a .free .now) _ _ _ _ _ _ is (c21 .phase-on .ensures) (w .0 .left)))
+    (λ w. phase-rounds m k (length (a .blocked .now)) (a .rng .state) (a .num .now) (a .x .now) (a .free .now) _ _ _ _ _ _ is
+    (at-phase-on .phase-on .ensures) (c .before .if1 .x) (c .before .if1 .free) (w .0 .taken) (w .10 ∙ w .3 .ensures)
+    (w .11 ∙ w .7 .ensures))
+    (λ w. rw (w .1, w .2) (phase-goes m k (length (a .blocked .now)) (a .rng .state) (a .num .now) (a .x .now) (a .free .now) _ _
+    _ _ _ _ is (at-phase-on .phase-on .ensures) (w .0 .left)))
     (c .before .if1 .came)
 
 pub next-phase-spec : {M : Type 1} → statement M

@@ -15,40 +15,47 @@ choose-words-requires c κs =
 
 choose-requires : tie.Need-choose-requires
 choose-requires c κs =
-    let start = c .before .before .before .before .before .before .before .before .before .before .before .before .before .before .before .before .before .before in
+    let start = c .before .before .before .before .before .before .before .before .before .before .before .before .before .before
+    .before .before .before .before in
     (start .pre .1 .1, rw (start .pre .0 .0 .paired) (start .pre .0 .2))
 
 choose-requires-2 : tie.Need-choose-requires-2
 choose-requires-2 c κs =
-    let start = c .before .before .before .before .before .before .before .before .before .before .before .before .before .before .before .before .before .before .before .before .before .before .before in
+    let start = c .before .before .before .before .before .before .before .before .before .before .before .before .before .before
+    .before .before .before .before .before .before .before .before .before in
     (start .pre .1 .2, rw (start .pre .0 .1 .wide) (start .pre .0 .2))
 
 phase-requires : tie.Need-phase-requires
 phase-requires c κs =
-    let c9 = c .before .before .before .before .before .before .before .before .before in
-    let c14 = c9 .before .before .before .before .before in
-    let c18 = c14 .before .before .before .before in
-    let start = c18 .before .before .before .before .before .before .before .before .before .before .before .before .before .before .before in
+    let at-choose2 = c .before .before .before .before .before .before .before .before .before in
+    let at-choose = at-choose2 .before .before .before .before .before in
+    let at-choose-words = at-choose .before .before .before .before in
+    let start = at-choose-words .before .before .before .before .before .before .before .before .before .before .before .before .before .before .before in
     let a = start .args in
-    let lc = c18 .choose-words .kept .0 ∙ start .pre .1 .0 in
-    let lx = c9 .choose2 .kept .0 ∙ start .pre .1 .2 in (
-      rw (c18 .choose-words .ensures, c14 .choose .ensures) (chosen-part (a .u .now) (a .n) (a .cols .now) (a .scale .now) (a .places .now) _ (start .pre .0 .0) (start .pre .0 .2) (start .pre .0 .3)),
+    let lc = at-choose-words .choose-words .kept .0 ∙ start .pre .1 .0 in
+    let lx = at-choose2 .choose2 .kept .0 ∙ start .pre .1 .2 in (
+      rw (at-choose-words .choose-words .ensures, at-choose .choose .ensures)
+          (chosen-part (a .u .now) (a .n) (a .cols .now) (a .scale .now) (a .places .now) _ (start .pre .0 .0) (start .pre .0 .2)
+          (start .pre .0 .3)),
       rw lc (roomy-part _ (length (a .places .now)) _ _ _ _ _ _ (start .pre .0 .1) (start .pre .0 .3) lx (start .pre .1 .3)),
       start .pre .1 .4 ∙ sym lc,
     )
 
 put-back-requires : tie.Need-put-back-requires
 put-back-requires c κs =
-    let c12 = c .before .before .before .before .before .before .before .before .before .before .before .before in
-    let c22 = c12 .before .before .before .before .before .before .before .before .before .before in
-    let start = c22 .before .before .before .before .before .before .before .before .before .before .before .before .before .before .before .before .before .before .before .before .before .before .before .before in
-    (c12 .phase .kept .1 .1 .0 ∙ c22 .choose2 .kept .0 ∙ start .pre .1 .2, rw (start .pre .0 .1 .wide) (start .pre .0 .2))
+    let at-phase = c .before .before .before .before .before .before .before .before .before .before .before .before in
+    let at-choose2 = at-phase .before .before .before .before .before .before .before .before .before .before in
+    let start = at-choose2 .before .before .before .before .before .before .before .before .before .before .before .before .before
+    .before .before .before .before .before .before .before .before .before .before .before in
+    (at-phase .phase .kept .1 .1 .0 ∙ at-choose2 .choose2 .kept .0 ∙ start .pre .1 .2, rw (start .pre .0 .1 .wide) (start .pre .0 .2))
 
 put-back-words-requires : tie.Need-put-back-words-requires
 put-back-words-requires c κs =
-    let c17 = c .before .before .before .before .before .before .before .before .before .before .before .before .before .before .before .before .before in
-    let start = c17 .before .before .before .before .before .before .before .before .before .before .before .before .before .before .before .before .before .before .before .before .before .before .before .before .before .before .before .before .before .before .before .before .before .before in
-    (c17 .phase .kept .1 .1 .1 .0 ∙ start .pre .1 .3, rw (start .pre .0 .1 .marks) (start .pre .0 .2))
+    let at-phase = c .before .before .before .before .before .before .before .before .before .before .before .before .before .before .before .before .before in
+    let start = at-phase .before .before .before .before .before .before .before .before .before .before .before .before .before
+    .before .before .before .before .before .before .before .before .before .before .before .before .before .before .before
+    .before .before .before .before .before .before in
+    (at-phase .phase .kept .1 .1 .1 .0 ∙ start .pre .1 .3, rw (start .pre .0 .1 .marks) (start .pre .0 .2))
 
 same-length : tie.Need-same-length
 same-length c = search needs
@@ -63,10 +70,14 @@ same-length-4 : tie.Need-same-length-4
 same-length-4 c = search needs
 
 same-length-5 : tie.Need-same-length-5
-same-length-5 c = c .before .before .before .before .before .before .before .before .before .before .before .before .before .before .before .before .before .before .before .before .before .before .before .before .before .before .before .before .before .before .before .before .before .before .before .before .before .before .before .before .choose-words .kept .0
+same-length-5 c = c .before .before .before .before .before .before .before .before .before .before .before .before .before
+    .before .before .before .before .before .before .before .before .before .before .before .before .before .before .before
+    .before .before .before .before .before .before .before .before .before .before .before .before .choose-words .kept .0
 
 same-length-6 : tie.Need-same-length-6
-same-length-6 c = c .before .before .before .before .before .before .before .before .before .before .before .before .before .before .before .before .before .before .before .before .before .before .before .before .before .before .before .before .before .before .before .before .before .before .before .before .choose .kept .0
+same-length-6 c = c .before .before .before .before .before .before .before .before .before .before .before .before .before
+    .before .before .before .before .before .before .before .before .before .before .before .before .before .before .before
+    .before .before .before .before .before .before .before .before .choose .kept .0
 
 same-length-7 : tie.Need-same-length-7
 same-length-7 c = search needs
@@ -79,16 +90,19 @@ same-length-9 c = search needs
 
 returns : tie.Need-returns
 returns c =
-    let c3 = c .before .before .before in
-    let c8 = c3 .before .before .before .before .before in
-    let c21 = c8 .before .before .before .before .before .before .before .before .before .before .before .before .before in
-    let c31 = c21 .before .before .before .before .before .before .before .before .before .before in
-    let c36 = c31 .before .before .before .before .before in
-    let c40 = c36 .before .before .before .before in
-    let a = c40 .before .before .before .before .before .before .before .before .before .before .before .before .before .before .before .args in
-    phased-at (a .u .now) (a .n) (a .cols .now) (a .scale .now) (a .places .now) (length (a .blocked .now)) (a .rng .state) (a .num .now) (a .x .now) (a .free .now)
-    _ _ _ (c40 .choose-words .ensures) (c36 .choose .ensures) (c31 .choose2 .ensures)
-    _ _ _ _ _ _ (c21 .phase .ensures) refl (ap (λ (r : ℕ). axIn r (c21 .phase .last .0)) (sym (c21 .phase .kept .1 .0))) refl (c8 .put-back .ensures) (c3 .put-back-words .ensures)
+    let at-put-back-words = c .before .before .before in
+    let at-put-back = at-put-back-words .before .before .before .before .before in
+    let at-phase = at-put-back .before .before .before .before .before .before .before .before .before .before .before .before .before in
+    let at-choose2 = at-phase .before .before .before .before .before .before .before .before .before .before in
+    let at-choose = at-choose2 .before .before .before .before .before in
+    let at-choose-words = at-choose .before .before .before .before in
+    let a = at-choose-words .before .before .before .before .before .before .before .before .before .before .before .before .before .before .before .args in
+    phased-at (a .u .now) (a .n) (a .cols .now) (a .scale .now) (a .places .now) (length (a .blocked .now)) (a .rng .state)
+    (a .num .now) (a .x .now) (a .free .now)
+    _ _ _ (at-choose-words .choose-words .ensures) (at-choose .choose .ensures) (at-choose2 .choose2 .ensures)
+    _ _ _ _ _ _ (at-phase .phase .ensures) refl
+    (ap (λ (r : ℕ). axIn r (at-phase .phase .last .0)) (sym (at-phase .phase .kept .1 .0))) refl
+    (at-put-back .put-back .ensures) (at-put-back-words .put-back-words .ensures)
 
 pub phase-on-spec : {M : Type 1} → statement M
 phase-on-spec =

@@ -29,9 +29,10 @@ cast-j c = omega (arith, c .shared-slice-known .given (c .before .before .loop .
 
 mul-to : tie.Need-mul-to Inv-loop μ-loop
 mul-to c =
-    let c2 = c .before .before in
-    let c3 = c2 .before in
-    let b : getD (c3 .args .places .now) (c2 .loop .p) 0 < length (c3 .args .v .now) = c3 .pre .1 .below (c2 .loop .p) (c .before .loop-test .taken) in
+    let at-loop = c .before .before in
+    let at-start = at-loop .before in
+    let b : getD (at-start .args .places .now) (at-loop .loop .p) 0 < length (at-start .args .v .now) = at-start .pre .1 .below
+    (at-loop .loop .p) (c .before .loop-test .taken) in
     search needs
 
 shared-slice-read-to : tie.Need-shared-slice-read-to Inv-loop μ-loop

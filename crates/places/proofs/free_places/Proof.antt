@@ -1,7 +1,8 @@
 -- `places::free_places` meets its contract: after j turns the places of the set marks below j stand at the front, which is what `keep` says.
 use Rattle.seq.proofs.Keeping.{none, push, keeps, skips}
 use borrow.Author.Tests.{eq-eqb, ne-eqb}
-use Rattle.seq.specs.Keep.{keep, Pushed}
+use Rattle.seq.specs.Keep.{keep}
+use Rattle.seq.specs.Indices.{Pushed}
 use Rattle.seq.specs.Marks.{isSet}
 use borrow.Author.Needs.{needs}
 use Prim.Native.Nat.{_-_, _≤_}

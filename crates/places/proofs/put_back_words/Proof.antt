@@ -36,10 +36,11 @@ shared-slice-read-v c = search needs
 
 mul-v-2 : tie.Need-mul-v-2 Inv-loop μ-loop
 mul-v-2 c =
-    let c2 = c .before .before in
-    let c3 = c2 .before in
-    let c4 = c3 .before in
-    let b : getD (c4 .args .places .now) (c3 .loop .p) 0 < length (c4 .args .v .now) = c4 .pre .1 .below (c3 .loop .p) (c2 .loop-test .taken) in
+    let at-loop-test = c .before .before in
+    let at-loop = at-loop-test .before in
+    let at-start = at-loop .before in
+    let b : getD (at-start .args .places .now) (at-loop .loop .p) 0 < length (at-start .args .v .now) = at-start .pre .1 .below
+    (at-loop .loop .p) (at-loop-test .loop-test .taken) in
     search needs
 
 slice-write-v : tie.Need-slice-write-v Inv-loop μ-loop
@@ -52,7 +53,11 @@ loop-less : tie.Need-loop-less Inv-loop μ-loop
 loop-less c = search needs
 
 loop-again : tie.Need-loop-again Inv-loop μ-loop
-loop-again c = (omega arith, simp length-set (c .before .before .before .loop .inv .1), put-more 0 0 _ _ _ _ _ (omega arith) (c .before .before .before .loop .inv .2))
+loop-again c = (
+  omega arith,
+  simp length-set (c .before .before .before .loop .inv .1),
+  put-more 0 0 _ _ _ _ _ (omega arith) (c .before .before .before .loop .inv .2),
+)
 
 same-length : tie.Need-same-length Inv-loop μ-loop
 same-length c = search needs

@@ -39,16 +39,17 @@ loop-less c = search needs
 
 loop-again : tie.Need-loop-again Inv-loop μ-loop
 loop-again c =
-    let c6 = c .before .before .before .before .before .before in
-    let c9 = c6 .before .before .before in
-    let c10 = c9 .before in
-    let c18 = c10 .before .before .before .before .before .before .before .before in
-    let a = c18 .args in
-    let l = c10 .loop in (
+    let at-sweep = c .before .before .before .before .before .before in
+    let at-loop-test = at-sweep .before .before .before in
+    let at-loop = at-loop-test .before in
+    let at-start = at-loop .before .before .before .before .before .before .before .before in
+    let a = at-start .args in
+    let l = at-loop .loop in (
       omega arith,
-      c6 .sweep .kept .0 ∙ l .inv .1,
-      c6 .sweep .kept .1 .0 ∙ l .inv .2,
-      l .inv .3 ∙ search-turn (entryOf (a .u .now) (a .n) (a .cols .now) (a .scale .now)) (length (a .cols .now)) (l .k) (l .x) (l .ax) (l .best) _ (c9 .loop-test .taken) (c6 .sweep .ensures) (not-false _ (c .if1 .left)),
+      at-sweep .sweep .kept .0 ∙ l .inv .1,
+      at-sweep .sweep .kept .1 .0 ∙ l .inv .2,
+      l .inv .3 ∙ search-turn (entryOf (a .u .now) (a .n) (a .cols .now) (a .scale .now)) (length (a .cols .now)) (l .k) (l .x)
+          (l .ax) (l .best) _ (at-loop-test .loop-test .taken) (at-sweep .sweep .ensures) (not-false _ (c .if1 .left)),
     )
 
 same-length : tie.Need-same-length Inv-loop μ-loop
@@ -61,7 +62,8 @@ returns : tie.Need-returns Inv-loop μ-loop
 returns c =
     let a = c .before .before .before .before .before .before .before .before .before .args in
     let l = c .before .loop in
-    sym (l .inv .3 ∙ search-over (entryOf (a .u .now) (a .n) (a .cols .now) (a .scale .now)) (length (a .cols .now)) (l .k) (l .x) (l .ax) (l .best) (omega arith))
+    sym (l .inv .3 ∙ search-over (entryOf (a .u .now) (a .n) (a .cols .now) (a .scale .now)) (length (a .cols .now)) (l .k) (l .x)
+    (l .ax) (l .best) (omega arith))
 
 same-length-3 : tie.Need-same-length-3 Inv-loop μ-loop
 same-length-3 c = search needs
@@ -71,13 +73,14 @@ same-length-4 c = search needs
 
 returns-2 : tie.Need-returns-2 Inv-loop μ-loop
 returns-2 c =
-    let c6 = c .before .before .before .before .before .before in
-    let c9 = c6 .before .before .before in
-    let c10 = c9 .before in
-    let c18 = c10 .before .before .before .before .before .before .before .before in
-    let a = c18 .args in
-    let l = c10 .loop in
-    sym (l .inv .3 ∙ search-stop (entryOf (a .u .now) (a .n) (a .cols .now) (a .scale .now)) (length (a .cols .now)) (l .k) (l .x) (l .ax) (l .best) _ (c9 .loop-test .taken) (c6 .sweep .ensures) (not-true _ (c .if1 .taken)))
+    let at-sweep = c .before .before .before .before .before .before in
+    let at-loop-test = at-sweep .before .before .before in
+    let at-loop = at-loop-test .before in
+    let at-start = at-loop .before .before .before .before .before .before .before .before in
+    let a = at-start .args in
+    let l = at-loop .loop in
+    sym (l .inv .3 ∙ search-stop (entryOf (a .u .now) (a .n) (a .cols .now) (a .scale .now)) (length (a .cols .now)) (l .k) (l .x)
+    (l .ax) (l .best) _ (at-loop-test .loop-test .taken) (at-sweep .sweep .ensures) (not-true _ (c .if1 .taken)))
 
 pub local-search-spec : {M : Type 1} → statement M
 local-search-spec =

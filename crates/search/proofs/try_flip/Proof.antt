@@ -99,14 +99,15 @@ same-length-2 c = search needs
 
 returns : tie.Need-returns
 returns c =
-    let c5 = c .before .before .before .before .before in
-    let c8 = c5 .before .before .before in
-    let c9 = c8 .before in
-    let c21 = c9 .before .before .before .before .before .before .before .before .before .before .before .before in
-    let a = c21 .args in
-    turned-over (entryOf (a .u .now) (a .n) (a .cols .now) (a .scale .now) (a .j)) (a .j) (a .x .now) (a .ax .now) (a .from) (c9 .stays-below .result)
-    (simp add-sub-cancel-left at (c9 .stays-below .ensures)) (c5 .less-column .last .0) (c .max-abs .result) (c8 .if1 .taken)
-    (simp add-sub-cancel-left at (c5 .less-column .ensures)) (c .max-abs .ensures)
+    let at-less-column = c .before .before .before .before .before in
+    let at-if1 = at-less-column .before .before .before in
+    let at-stays-below = at-if1 .before in
+    let at-start = at-stays-below .before .before .before .before .before .before .before .before .before .before .before .before in
+    let a = at-start .args in
+    turned-over (entryOf (a .u .now) (a .n) (a .cols .now) (a .scale .now) (a .j)) (a .j) (a .x .now) (a .ax .now) (a .from)
+    (at-stays-below .stays-below .result)
+    (simp add-sub-cancel-left at (at-stays-below .stays-below .ensures)) (at-less-column .less-column .last .0) (c .max-abs .result) (at-if1 .if1 .taken)
+    (simp add-sub-cancel-left at (at-less-column .less-column .ensures)) (c .max-abs .ensures)
 
 same-length-3 : tie.Need-same-length-3
 same-length-3 c = search needs

@@ -17,12 +17,19 @@ begin-requires c κs =
 
 steps-requires : tie.Need-steps-requires
 steps-requires c κs =
-    let c11 = c .before .before .before .before .before .before .before .before .before .before .before in
-    let c17 = c11 .before .before .before .before .before .before in
-    let c27 = c17 .before .before .before .before .before .before .before .before .before .before in
-    let a = c27 .args in
-    let p = c27 .pre in
-    (rw (c11 .begin .kept .1 .0) (p .0), start-room (entryOf (a .u .now) (a .n) (a .cols .now) (a .scale .now)) (length (a .cols .now)) (a .num .now) (a .blocked .now) (a .x .now) (a .free .now) (c11 .begin .last .0) (c11 .begin .last .1 .0) (c17 .fill-words .last .0) (c11 .begin .result) (p .1) (c11 .begin .ensures) (c11 .begin .kept .0) (c11 .begin .kept .1 .0) (c17 .fill-words .ensures), c11 .begin .kept .1 .1 .1 .1 .1 .1 .0 ∙ p .2, refl)
+    let at-begin = c .before .before .before .before .before .before .before .before .before .before .before in
+    let at-fill-words = at-begin .before .before .before .before .before .before in
+    let at-start = at-fill-words .before .before .before .before .before .before .before .before .before .before in
+    let a = at-start .args in
+    let p = at-start .pre in (
+      rw (at-begin .begin .kept .1 .0) (p .0),
+      start-room (entryOf (a .u .now) (a .n) (a .cols .now) (a .scale .now)) (length (a .cols .now)) (a .num .now)
+          (a .blocked .now) (a .x .now) (a .free .now) (at-begin .begin .last .0) (at-begin .begin .last .1 .0)
+          (at-fill-words .fill-words .last .0) (at-begin .begin .result) (p .1) (at-begin .begin .ensures)
+          (at-begin .begin .kept .0) (at-begin .begin .kept .1 .0) (at-fill-words .fill-words .ensures),
+      at-begin .begin .kept .1 .1 .1 .1 .1 .1 .0 ∙ p .2,
+      refl,
+    )
 
 same-length : tie.Need-same-length
 same-length c = search needs
@@ -41,13 +48,16 @@ same-length-5 c = search needs
 
 returns : tie.Need-returns
 returns c =
-    let c10 = c .before .before .before .before .before .before .before .before .before .before in
-    let c22 = c10 .before .before .before .before .before .before .before .before .before .before .before .before in
-    let c28 = c22 .before .before .before .before .before .before in
-    let c38 = c28 .before .before .before .before .before .before .before .before .before .before in
-    let a = c38 .args in
-    let p = c38 .pre in
-    phase-is (entryOf (a .u .now) (a .n) (a .cols .now) (a .scale .now)) (length (a .cols .now)) (a .num .now) (a .blocked .now) (a .x .now) (a .free .now) (c22 .begin .last .0) (c22 .begin .last .1 .0) (c28 .fill-words .last .0) (c22 .begin .result) (p .1) (c22 .begin .ensures) (c22 .begin .kept .0) (c22 .begin .kept .1 .0) (c28 .fill-words .ensures) _ (a .rng .state) (c10 .steps .ensures)
+    let at-steps = c .before .before .before .before .before .before .before .before .before .before in
+    let at-begin = at-steps .before .before .before .before .before .before .before .before .before .before .before .before in
+    let at-fill-words = at-begin .before .before .before .before .before .before in
+    let at-start = at-fill-words .before .before .before .before .before .before .before .before .before .before in
+    let a = at-start .args in
+    let p = at-start .pre in
+    phase-is (entryOf (a .u .now) (a .n) (a .cols .now) (a .scale .now)) (length (a .cols .now)) (a .num .now) (a .blocked .now)
+    (a .x .now) (a .free .now) (at-begin .begin .last .0) (at-begin .begin .last .1 .0) (at-fill-words .fill-words .last .0)
+    (at-begin .begin .result) (p .1) (at-begin .begin .ensures) (at-begin .begin .kept .0) (at-begin .begin .kept .1 .0)
+    (at-fill-words .fill-words .ensures) _ (a .rng .state) (at-steps .steps .ensures)
 
 pub phase-spec : {M : Type 1} → statement M
 phase-spec =

@@ -18,13 +18,21 @@ add-base-2 c = search needs
 
 mul-end : tie.Need-mul-end
 mul-end c =
-    let c8 = c .before .before .before .before .before .before .before .before in
-    omega (arith, vectors-room (length (c8 .args .cols .now)) (c8 .args .num .now) (c8 .args .blocked .now) (c8 .args .x .now) (c8 .args .free .now) (c8 .args .from .count) (c8 .pre .1))
+    let at-start = c .before .before .before .before .before .before .before .before in
+    omega (
+      arith,
+      vectors-room (length (at-start .args .cols .now)) (at-start .args .num .now) (at-start .args .blocked .now)
+          (at-start .args .x .now) (at-start .args .free .now) (at-start .args .from .count) (at-start .pre .1),
+    )
 
 add-end : tie.Need-add-end
 add-end c =
-    let c8 = c .before .before .before .before .before .before .before .before in
-    omega (arith, vectors-room (length (c8 .args .cols .now)) (c8 .args .num .now) (c8 .args .blocked .now) (c8 .args .x .now) (c8 .args .free .now) (c8 .args .from .count) (c8 .pre .1))
+    let at-start = c .before .before .before .before .before .before .before .before in
+    omega (
+      arith,
+      vectors-room (length (at-start .args .cols .now)) (at-start .args .num .now) (at-start .args .blocked .now)
+          (at-start .args .x .now) (at-start .args .free .now) (at-start .args .from .count) (at-start .pre .1),
+    )
 
 draw-into-requires : tie.Need-draw-into-requires
 draw-into-requires c κs = search needs
@@ -40,8 +48,12 @@ part-direct-start c = search needs
 
 part-direct-end : tie.Need-part-direct-end
 part-direct-end c =
-    let c13 = c .before .before .before .before .before .before .before .before .before .before .before .before .before in
-    omega (arith, vectors-room (length (c13 .args .cols .now)) (c13 .args .num .now) (c13 .args .blocked .now) (c13 .args .x .now) (c13 .args .free .now) (c13 .args .from .count) (c13 .pre .1))
+    let at-start = c .before .before .before .before .before .before .before .before .before .before .before .before .before in
+    omega (
+      arith,
+      vectors-room (length (at-start .args .cols .now)) (at-start .args .num .now) (at-start .args .blocked .now)
+          (at-start .args .x .now) (at-start .args .free .now) (at-start .args .from .count) (at-start .pre .1),
+    )
 
 direct-requires : tie.Need-direct-requires
 direct-requires c κs = search needs
@@ -57,24 +69,28 @@ same-length-3 c = search needs
 
 returns : tie.Need-returns
 returns c =
-    let c3 = c .before .before .before in
-    let c10 = c3 .before .before .before .before .before .before .before in
-    let c20 = c10 .before .before .before .before .before .before .before .before .before .before in
-    let a = c20 .args in
-    let p = c20 .pre in
+    let at-direct = c .before .before .before in
+    let at-draw-into = at-direct .before .before .before .before .before .before .before in
+    let at-start = at-draw-into .before .before .before .before .before .before .before .before .before .before in
+    let a = at-start .args in
+    let p = at-start .pre in
     let l = length (a .cols .now) in
     let r = length (a .blocked .now) in
     let m = a .from .count * l in
     let e = entryOf (a .u .now) (a .n) (a .cols .now) (a .scale .now) in
-    stops-short e l (a .num .now) (a .blocked .now) (a .x .now) (a .free .now) (a .from .count) (a .from .frozen) (a .from .rng .state) (r + r + r + m - (r + r + r)) (a .g .now) (c10 .draw-into .last .0) (c3 .direct .last .1 .1 .1 .1 .0) (c3 .direct .result) (p .1) (omega arith) (p .2) (c10 .draw-into .ensures .0) (c3 .direct .ensures .0) (c3 .direct .ensures .1) _ (c .if1 .taken) refl refl refl (c10 .draw-into .ensures .1)
+    stops-short e l (a .num .now) (a .blocked .now) (a .x .now) (a .free .now) (a .from .count) (a .from .frozen)
+    (a .from .rng .state) (r + r + r + m - (r + r + r)) (a .g .now) (at-draw-into .draw-into .last .0)
+    (at-direct .direct .last .1 .1 .1 .1 .0) (at-direct .direct .result) (p .1) (omega arith) (p .2)
+    (at-draw-into .draw-into .ensures .0) (at-direct .direct .ensures .0) (at-direct .direct .ensures .1) _ (c .if1 .taken)
+    refl refl refl (at-draw-into .draw-into .ensures .1)
 
 advance-requires : tie.Need-advance-requires
 advance-requires c κs =
-    let c7 = c .before .before .before .before .before .before .before in
-    let c14 = c7 .before .before .before .before .before .before .before in
-    let c24 = c14 .before .before .before .before .before .before .before .before .before .before in
-    let p = c24 .pre in
-    (p .0, c7 .direct .kept .1 .1 .1 .1 .0 ∙ c14 .draw-into .kept .0 ∙ p .2, p .1 .wide, p .1 .marks, omega (arith, p .1 .room))
+    let at-direct = c .before .before .before .before .before .before .before in
+    let at-draw-into = at-direct .before .before .before .before .before .before .before in
+    let at-start = at-draw-into .before .before .before .before .before .before .before .before .before .before in
+    let p = at-start .pre in
+    (p .0, at-direct .direct .kept .1 .1 .1 .1 .0 ∙ at-draw-into .draw-into .kept .0 ∙ p .2, p .1 .wide, p .1 .marks, omega (arith, p .1 .room))
 
 same-length-4 : tie.Need-same-length-4
 same-length-4 c = search needs
@@ -90,27 +106,38 @@ same-length-7 c = search needs
 
 returns-2 : tie.Need-returns-2
 returns-2 c =
-    let c7 = c .before .before .before .before .before .before .before in
-    let c12 = c7 .before .before .before .before .before in
-    let c15 = c12 .before .before .before in
-    let c22 = c15 .before .before .before .before .before .before .before in
-    let c32 = c22 .before .before .before .before .before .before .before .before .before .before in
-    let a = c32 .args in
-    let p = c32 .pre in
+    let at-advance = c .before .before .before .before .before .before .before in
+    let at-if1 = at-advance .before .before .before .before .before in
+    let at-direct = at-if1 .before .before .before in
+    let at-draw-into = at-direct .before .before .before .before .before .before .before in
+    let at-start = at-draw-into .before .before .before .before .before .before .before .before .before .before in
+    let a = at-start .args in
+    let p = at-start .pre in
     let l = length (a .cols .now) in
     let r = length (a .blocked .now) in
     let m = a .from .count * l in
     let e = entryOf (a .u .now) (a .n) (a .cols .now) (a .scale .now) in
-    stops-nowhere e l (a .num .now) (a .blocked .now) (a .x .now) (a .free .now) (a .from .count) (a .from .frozen) (a .from .rng .state) (r + r + r + m - (r + r + r)) (a .g .now) (c22 .draw-into .last .0) (c15 .direct .last .1 .1 .1 .1 .0) (c15 .direct .result) (p .1) (omega arith) (p .2) (c22 .draw-into .ensures .0) (c15 .direct .ensures .0) (c15 .direct .ensures .1) (c7 .advance .result) (c7 .advance .last .0) (c7 .advance .last .1 .1 .0) (c7 .advance .ensures) (c12 .if1 .left) _ (not-true _ (c .if2 .taken)) refl refl refl (c22 .draw-into .ensures .1)
+    stops-nowhere e l (a .num .now) (a .blocked .now) (a .x .now) (a .free .now) (a .from .count) (a .from .frozen)
+    (a .from .rng .state) (r + r + r + m - (r + r + r)) (a .g .now) (at-draw-into .draw-into .last .0)
+    (at-direct .direct .last .1 .1 .1 .1 .0) (at-direct .direct .result) (p .1) (omega arith) (p .2)
+    (at-draw-into .draw-into .ensures .0) (at-direct .direct .ensures .0) (at-direct .direct .ensures .1)
+    (at-advance .advance .result) (at-advance .advance .last .0) (at-advance .advance .last .1 .1 .0)
+    (at-advance .advance .ensures) (at-if1 .if1 .left) _ (not-true _ (c .if2 .taken)) refl refl refl
+    (at-draw-into .draw-into .ensures .1)
 
 freeze-requires : tie.Need-freeze-requires
 freeze-requires c κs =
-    let c12 = c .before .before .before .before .before .before .before .before .before .before .before .before in
-    let c20 = c12 .before .before .before .before .before .before .before .before in
-    let c27 = c20 .before .before .before .before .before .before .before in
-    let c37 = c27 .before .before .before .before .before .before .before .before .before .before in
-    let p = c37 .pre in
-    (p .0, roomy-kept _ _ (p .1) (c12 .advance .kept .0) (c12 .advance .kept .1 .1 .0), c12 .advance .kept .1 .1 .1 .1 .1 .1 .1 .1 .0 ∙ c20 .direct .kept .1 .1 .1 .1 .0 ∙ c27 .draw-into .kept .0 ∙ p .2, p .3)
+    let at-advance = c .before .before .before .before .before .before .before .before .before .before .before .before in
+    let at-direct = at-advance .before .before .before .before .before .before .before .before in
+    let at-draw-into = at-direct .before .before .before .before .before .before .before in
+    let at-start = at-draw-into .before .before .before .before .before .before .before .before .before .before in
+    let p = at-start .pre in (
+      p .0,
+      roomy-kept _ _ (p .1) (at-advance .advance .kept .0) (at-advance .advance .kept .1 .1 .0),
+      at-advance .advance .kept .1 .1 .1 .1 .1 .1 .1 .1 .0 ∙ at-direct .direct .kept .1 .1 .1 .1 .0 ∙ at-draw-into .draw-into .kept .0
+          ∙ p .2,
+      p .3,
+    )
 
 same-length-8 : tie.Need-same-length-8
 same-length-8 c = search needs
@@ -126,30 +153,38 @@ same-length-11 c = search needs
 
 same-length-12 : tie.Need-same-length-12
 same-length-12 c =
-    let c11 = c .before .before .before .before .before .before .before .before .before .before .before in
-    let c24 = c11 .before .before .before .before .before .before .before .before .before .before .before .before .before in
-    let c32 = c24 .before .before .before .before .before .before .before .before in
-    let c39 = c32 .before .before .before .before .before .before .before in
-    c11 .freeze .kept .1 .1 .1 .1 .1 .1 .1 .1 .1 .0 ∙ c24 .advance .kept .1 .1 .1 .1 .1 .1 .1 .1 .0 ∙ c32 .direct .kept .1 .1 .1 .1 .0 ∙ c39 .draw-into .kept .0
+    let at-freeze = c .before .before .before .before .before .before .before .before .before .before .before in
+    let at-advance = at-freeze .before .before .before .before .before .before .before .before .before .before .before .before .before in
+    let at-direct = at-advance .before .before .before .before .before .before .before .before in
+    let at-draw-into = at-direct .before .before .before .before .before .before .before in
+    at-freeze .freeze .kept .1 .1 .1 .1 .1 .1 .1 .1 .1 .0 ∙ at-advance .advance .kept .1 .1 .1 .1 .1 .1 .1 .1 .0 ∙ at-direct .direct .kept .1 .1 .1 .1 .0
+    ∙ at-draw-into .draw-into .kept .0
 
 returns-3 : tie.Need-returns-3
 returns-3 c =
-    let c11 = c .before .before .before .before .before .before .before .before .before .before .before in
-    let c17 = c11 .before .before .before .before .before .before in
-    let c24 = c17 .before .before .before .before .before .before .before in
-    let c29 = c24 .before .before .before .before .before in
-    let c32 = c29 .before .before .before in
-    let c39 = c32 .before .before .before .before .before .before .before in
-    let c49 = c39 .before .before .before .before .before .before .before .before .before .before in
-    let a = c49 .args in
-    let p = c49 .pre in
+    let at-freeze = c .before .before .before .before .before .before .before .before .before .before .before in
+    let at-if2 = at-freeze .before .before .before .before .before .before in
+    let at-advance = at-if2 .before .before .before .before .before .before .before in
+    let at-if1 = at-advance .before .before .before .before .before in
+    let at-direct = at-if1 .before .before .before in
+    let at-draw-into = at-direct .before .before .before .before .before .before .before in
+    let at-start = at-draw-into .before .before .before .before .before .before .before .before .before .before in
+    let a = at-start .args in
+    let p = at-start .pre in
     let l = length (a .cols .now) in
     let r = length (a .blocked .now) in
     let m = a .from .count * l in
     let e = entryOf (a .u .now) (a .n) (a .cols .now) (a .scale .now) in
-    moves-on e l (a .num .now) (a .blocked .now) (a .x .now) (a .free .now) (a .from .count) (a .from .frozen) (a .from .rng .state) (r + r + r + m - (r + r + r)) (a .g .now) (c39 .draw-into .last .0) (c32 .direct .last .1 .1 .1 .1 .0) (c32 .direct .result) (p .1) (omega arith) (p .2) (c39 .draw-into .ensures .0) (c32 .direct .ensures .0) (c32 .direct .ensures .1) (c24 .advance .result) (c24 .advance .last .0) (c24 .advance .last .1 .1 .0) (c24 .advance .ensures) (c29 .if1 .left)
-    _ (c11 .freeze .last .0) (c11 .freeze .last .1 .1 .0) (c11 .freeze .last .1 .1 .1 .0) (c11 .freeze .last .1 .1 .1 .1 .0) (c11 .freeze .result .count) (c11 .freeze .result .frozen) (not-false _ (c17 .if2 .left)) (c24 .advance .kept .1 .1 .0)
-    (c11 .freeze .ensures) refl refl refl (c39 .draw-into .ensures .1)
+    moves-on e l (a .num .now) (a .blocked .now) (a .x .now) (a .free .now) (a .from .count) (a .from .frozen)
+    (a .from .rng .state) (r + r + r + m - (r + r + r)) (a .g .now) (at-draw-into .draw-into .last .0)
+    (at-direct .direct .last .1 .1 .1 .1 .0) (at-direct .direct .result) (p .1) (omega arith) (p .2)
+    (at-draw-into .draw-into .ensures .0) (at-direct .direct .ensures .0) (at-direct .direct .ensures .1)
+    (at-advance .advance .result) (at-advance .advance .last .0) (at-advance .advance .last .1 .1 .0)
+    (at-advance .advance .ensures) (at-if1 .if1 .left)
+    _ (at-freeze .freeze .last .0) (at-freeze .freeze .last .1 .1 .0) (at-freeze .freeze .last .1 .1 .1 .0)
+    (at-freeze .freeze .last .1 .1 .1 .1 .0) (at-freeze .freeze .result .count) (at-freeze .freeze .result .frozen)
+    (not-false _ (at-if2 .if2 .left)) (at-advance .advance .kept .1 .1 .0)
+    (at-freeze .freeze .ensures) refl refl refl (at-draw-into .draw-into .ensures .1)
 
 pub step-spec : {M : Type 1} → statement M
 step-spec =

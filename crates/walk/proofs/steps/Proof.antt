@@ -13,16 +13,20 @@ use Rattle.walk.proofs.steps.Tie as tie
 
 abbrev Inv-loop : tie.InvT-loop
 Inv-loop num₀ blocked₀ x₀ free₀ u n cols scale g₀ at₀ num blocked x free g at =
-    Going (entryOf u n cols scale) (length cols) num₀ blocked₀ x₀ free₀ g₀ (held num₀ blocked₀ x₀ free₀ (at₀ .count) (at₀ .frozen) (at₀ .rng .state)) num blocked x free g (at .count) (at .frozen) (at .rng .state)
+    Going (entryOf u n cols scale) (length cols) num₀ blocked₀ x₀ free₀ g₀
+    (held num₀ blocked₀ x₀ free₀ (at₀ .count) (at₀ .frozen) (at₀ .rng .state)) num blocked x free g (at .count) (at .frozen)
+    (at .rng .state)
 
 abbrev μ-loop : tie.MeasureT-loop
 μ-loop num₀ blocked₀ x₀ free₀ u n cols scale g₀ at₀ num blocked x free g at = freeOnes free
 
 loop-holds : tie.Need-loop-holds Inv-loop μ-loop
 loop-holds c =
-    let c8 = c .before .before .before .before .before .before .before .before in
-    let a = c8 .args in
-    going-start (entryOf (a .u .now) (a .n) (a .cols .now) (a .scale .now)) (length (a .cols .now)) (a .num .now) (a .blocked .now) (a .x .now) (a .free .now) (a .g .now) (a .from .count) (a .from .frozen) (a .from .rng .state) (c8 .pre .1) (c8 .pre .3)
+    let at-start = c .before .before .before .before .before .before .before .before in
+    let a = at-start .args in
+    going-start (entryOf (a .u .now) (a .n) (a .cols .now) (a .scale .now)) (length (a .cols .now)) (a .num .now)
+    (a .blocked .now) (a .x .now) (a .free .now) (a .g .now) (a .from .count) (a .from .frozen) (a .from .rng .state)
+    (at-start .pre .1) (at-start .pre .3)
 
 step-requires : tie.Need-step-requires Inv-loop μ-loop
 step-requires c κs =
@@ -32,25 +36,35 @@ step-requires c κs =
 
 loop-less : tie.Need-loop-less Inv-loop μ-loop
 loop-less c =
-    let c13 = c .before .before .before .before .before .before .before .before .before .before .before .before .before in
-    let c19 = c13 .before .before .before .before .before .before in
-    let c21 = c19 .before .before in
-    let c30 = c21 .before .before .before .before .before .before .before .before .before in
-    let a = c30 .args in
-    let s = c21 .loop in
+    let at-step = c .before .before .before .before .before .before .before .before .before .before .before .before .before in
+    let at-if1 = at-step .before .before .before .before .before .before in
+    let at-loop = at-if1 .before .before in
+    let at-start = at-loop .before .before .before .before .before .before .before .before .before in
+    let a = at-start .args in
+    let s = at-loop .loop in
     let w = held (a .num .now) (a .blocked .now) (a .x .now) (a .free .now) (a .from .count) (a .from .frozen) (a .from .rng .state) in
-    fewer-free (entryOf (a .u .now) (a .n) (a .cols .now) (a .scale .now)) (length (a .cols .now)) (a .num .now) (a .blocked .now) (a .x .now) (a .free .now) (a .g .now) w (s .num) (s .blocked) (s .x) (s .free) (s .g) (s .at .count) (s .at .frozen) (s .at .rng .state) (s .inv) (c13 .step .last .0) (c13 .step .last .1 .0) (c13 .step .last .1 .1 .0) (c13 .step .last .1 .1 .1 .0) (c13 .step .result) (c19 .if1 .taken) (c13 .step .ensures) (not-false _ (c .if2 .left))
+    fewer-free (entryOf (a .u .now) (a .n) (a .cols .now) (a .scale .now)) (length (a .cols .now)) (a .num .now) (a .blocked .now)
+    (a .x .now) (a .free .now) (a .g .now) w (s .num) (s .blocked) (s .x) (s .free) (s .g) (s .at .count) (s .at .frozen)
+    (s .at .rng .state) (s .inv) (at-step .step .last .0) (at-step .step .last .1 .0) (at-step .step .last .1 .1 .0)
+    (at-step .step .last .1 .1 .1 .0) (at-step .step .result) (at-if1 .if1 .taken) (at-step .step .ensures)
+    (not-false _ (c .if2 .left))
 
 loop-again : tie.Need-loop-again Inv-loop μ-loop
 loop-again c =
-    let c13 = c .before .before .before .before .before .before .before .before .before .before .before .before .before in
-    let c19 = c13 .before .before .before .before .before .before in
-    let c21 = c19 .before .before in
-    let c30 = c21 .before .before .before .before .before .before .before .before .before in
-    let a = c30 .args in
-    let s = c21 .loop in
+    let at-step = c .before .before .before .before .before .before .before .before .before .before .before .before .before in
+    let at-if1 = at-step .before .before .before .before .before .before in
+    let at-loop = at-if1 .before .before in
+    let at-start = at-loop .before .before .before .before .before .before .before .before .before in
+    let a = at-start .args in
+    let s = at-loop .loop in
     let w = held (a .num .now) (a .blocked .now) (a .x .now) (a .free .now) (a .from .count) (a .from .frozen) (a .from .rng .state) in
-    going-on (entryOf (a .u .now) (a .n) (a .cols .now) (a .scale .now)) (length (a .cols .now)) (a .num .now) (a .blocked .now) (a .x .now) (a .free .now) (a .g .now) w (s .num) (s .blocked) (s .x) (s .free) (s .g) (s .at .count) (s .at .frozen) (s .at .rng .state) (s .inv) (c13 .step .last .0) (c13 .step .last .1 .0) (c13 .step .last .1 .1 .0) (c13 .step .last .1 .1 .1 .0) (c13 .step .result) (c19 .if1 .taken) (c13 .step .ensures) (c13 .step .last .1 .1 .1 .1 .1 .1 .1 .1 .1 .0) (not-false _ (c .if2 .left)) (c13 .step .kept .0) (c13 .step .kept .1 .0) (c13 .step .kept .1 .1 .0) (c13 .step .kept .1 .1 .1 .0) (c13 .step .kept .1 .1 .1 .1 .1 .1 .1 .1 .1 .0)
+    going-on (entryOf (a .u .now) (a .n) (a .cols .now) (a .scale .now)) (length (a .cols .now)) (a .num .now) (a .blocked .now)
+    (a .x .now) (a .free .now) (a .g .now) w (s .num) (s .blocked) (s .x) (s .free) (s .g) (s .at .count) (s .at .frozen)
+    (s .at .rng .state) (s .inv) (at-step .step .last .0) (at-step .step .last .1 .0) (at-step .step .last .1 .1 .0)
+    (at-step .step .last .1 .1 .1 .0) (at-step .step .result) (at-if1 .if1 .taken) (at-step .step .ensures)
+    (at-step .step .last .1 .1 .1 .1 .1 .1 .1 .1 .1 .0) (not-false _ (c .if2 .left)) (at-step .step .kept .0)
+    (at-step .step .kept .1 .0) (at-step .step .kept .1 .1 .0) (at-step .step .kept .1 .1 .1 .0)
+    (at-step .step .kept .1 .1 .1 .1 .1 .1 .1 .1 .1 .0)
 
 same-length : tie.Need-same-length Inv-loop μ-loop
 same-length c = search needs
@@ -69,12 +83,14 @@ same-length-5 c = search needs
 
 returns : tie.Need-returns Inv-loop μ-loop
 returns c =
-    let c2 = c .before .before in
-    let c11 = c2 .before .before .before .before .before .before .before .before .before in
-    let a = c11 .args in
-    let s = c2 .loop in
+    let at-loop = c .before .before in
+    let at-start = at-loop .before .before .before .before .before .before .before .before .before in
+    let a = at-start .args in
+    let s = at-loop .loop in
     let w = held (a .num .now) (a .blocked .now) (a .x .now) (a .free .now) (a .from .count) (a .from .frozen) (a .from .rng .state) in
-    going-full (entryOf (a .u .now) (a .n) (a .cols .now) (a .scale .now)) (length (a .cols .now)) (a .num .now) (a .blocked .now) (a .x .now) (a .free .now) (a .g .now) w (s .num) (s .blocked) (s .x) (s .free) (s .g) (s .at .count) (s .at .frozen) (s .at .rng .state) (s .inv) (c .if1 .left)
+    going-full (entryOf (a .u .now) (a .n) (a .cols .now) (a .scale .now)) (length (a .cols .now)) (a .num .now) (a .blocked .now)
+    (a .x .now) (a .free .now) (a .g .now) w (s .num) (s .blocked) (s .x) (s .free) (s .g) (s .at .count) (s .at .frozen)
+    (s .at .rng .state) (s .inv) (c .if1 .left)
 
 same-length-6 : tie.Need-same-length-6 Inv-loop μ-loop
 same-length-6 c = search needs
@@ -93,14 +109,18 @@ same-length-10 c = search needs
 
 returns-2 : tie.Need-returns-2 Inv-loop μ-loop
 returns-2 c =
-    let c13 = c .before .before .before .before .before .before .before .before .before .before .before .before .before in
-    let c19 = c13 .before .before .before .before .before .before in
-    let c21 = c19 .before .before in
-    let c30 = c21 .before .before .before .before .before .before .before .before .before in
-    let a = c30 .args in
-    let s = c21 .loop in
+    let at-step = c .before .before .before .before .before .before .before .before .before .before .before .before .before in
+    let at-if1 = at-step .before .before .before .before .before .before in
+    let at-loop = at-if1 .before .before in
+    let at-start = at-loop .before .before .before .before .before .before .before .before .before in
+    let a = at-start .args in
+    let s = at-loop .loop in
     let w = held (a .num .now) (a .blocked .now) (a .x .now) (a .free .now) (a .from .count) (a .from .frozen) (a .from .rng .state) in
-    going-last (entryOf (a .u .now) (a .n) (a .cols .now) (a .scale .now)) (length (a .cols .now)) (a .num .now) (a .blocked .now) (a .x .now) (a .free .now) (a .g .now) w (s .num) (s .blocked) (s .x) (s .free) (s .g) (s .at .count) (s .at .frozen) (s .at .rng .state) (s .inv) (c13 .step .last .0) (c13 .step .last .1 .0) (c13 .step .last .1 .1 .0) (c13 .step .last .1 .1 .1 .0) (c13 .step .result) (c19 .if1 .taken) (c13 .step .ensures) (not-true _ (c .if2 .taken))
+    going-last (entryOf (a .u .now) (a .n) (a .cols .now) (a .scale .now)) (length (a .cols .now)) (a .num .now) (a .blocked .now)
+    (a .x .now) (a .free .now) (a .g .now) w (s .num) (s .blocked) (s .x) (s .free) (s .g) (s .at .count) (s .at .frozen)
+    (s .at .rng .state) (s .inv) (at-step .step .last .0) (at-step .step .last .1 .0) (at-step .step .last .1 .1 .0)
+    (at-step .step .last .1 .1 .1 .0) (at-step .step .result) (at-if1 .if1 .taken) (at-step .step .ensures)
+    (not-true _ (c .if2 .taken))
 
 pub steps-spec : {M : Type 1} → statement M
 steps-spec =
