@@ -1,29 +1,24 @@
 -- Bits there and back: what is read as bits is how their number is written, and what is written as bits is read.
-use Prim.Native.Nat.{ℕ, _+_, _^_, _≤_, _<_}
+use Prim.Native.Nat.{ℕ, _+_, _^_, _<_}
 use mathlib.Core.Path.{_≡_}
 use mathlib.Core.Bool.{true, _||_}
 use mathlib.Core.List.{List}
 use native.Mathlib.Omega.{arith}
-use lib.ListN.{length}
 use Rattle.seq.specs.Lists.{part}
 use Rattle.fields.specs.Bytes.{byteAt}
 use Rattle.fields.specs.Digits.{isDigit, isLetter, numberAt}
 use Rattle.fields.specs.Fields.{isBits}
 use Rattle.fields.specs.Texts.{bitsText}
-use Rattle.fields.proofs.Values.{Says, hex-says, says-hex, says-positive}
+use Rattle.fields.proofs.Values.{Says, hex-says, says-hex}
 use Rattle.seq.proofs.Every.{every-at, every-holds}
 use Rattle.fields.proofs.Turns.{number-small}
-use Rattle.fields.proofs.Numerals.{inside, digits-of-number, number-of-digits, digits-say}
+use Rattle.fields.proofs.Numerals.{digits-of-number, number-of-digits, digits-say}
 
 -- each of the sixteen is a digit of base 16
 pub bits-say : (t : List ℕ) (i : ℕ) → isBits t i ≡ true → (j : ℕ) → j < 16 → Says 16 (byteAt t (i + j))
 unfolding isBits
 bits-say t i h j g =
     hex-says (byteAt t (i + j)) (every-at (λ k. isDigit (byteAt t (i + k)) || isLetter (byteAt t (i + k))) 16 j h g)
-
--- they stand within the text
-pub bits-inside : (t : List ℕ) (i : ℕ) → isBits t i ≡ true → i + 16 ≤ length t
-bits-inside t i h = omega (arith, inside t (i + 15) (says-positive (bits-say t i h 15 (omega arith))))
 
 -- sixteen digits of base 16 say less than 2 ^ 64
 pub bits-below : (t : List ℕ) (i : ℕ) → numberAt 16 t i 16 < 2 ^ 64

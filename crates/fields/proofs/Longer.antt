@@ -25,7 +25,8 @@ spelled-longer word t more i h =
 pub bits-longer : (t more : List ℕ) (i : ℕ) → i + 16 ≤ length t → isBits (t ++ more) i ≡ isBits t i
 unfolding isBits
 bits-longer t more i h =
-    every-same (λ k. isDigit (byteAt (t ++ more) (i + k)) || isLetter (byteAt (t ++ more) (i + k))) (λ k. isDigit (byteAt t (i + k)) || isLetter (byteAt t (i + k))) 16
+    every-same (λ k. isDigit (byteAt (t ++ more) (i + k)) || isLetter (byteAt (t ++ more) (i + k)))
+    (λ k. isDigit (byteAt t (i + k)) || isLetter (byteAt t (i + k))) 16
     (λ j g. ap (λ (b : ℕ). isDigit b || isLetter b) (byte-longer t more (i + j) (omega arith)))
 
 pub number-longer : (base : ℕ) (t more : List ℕ) (i k : ℕ) → i + k ≤ length t → numberAt base (t ++ more) i k ≡ numberAt base t i k

@@ -3,3 +3,4 @@ pub mod Bytes
 pub mod Fields
 pub mod Digits
 pub mod Texts
+pub mod Steps

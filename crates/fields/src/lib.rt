@@ -2,11 +2,11 @@
 ghost use mathlib.Core.Path.{_≡_};
 ghost use Prim.Native.Nat.{_+_, _≤_};
 ghost use lib.ListN.{length};
-ghost use Rattle.seq.specs.Lists.{placed};
 ghost use Rattle.fields.specs.Bytes.{byteAt, spelled};
 ghost use Rattle.fields.specs.Digits.{isDigit, isLetter, digitValue, digitFor, numberAt, digitsOf};
 ghost use Rattle.fields.specs.Fields.{isBits, bitsAt, widthAt, isCount, countAt};
-ghost use Rattle.fields.specs.Texts.{bitsText, widthOf, countText};
+ghost use Rattle.fields.specs.Texts.{bitsText, widthOf, countText, tabbed, noteText};
+ghost use Rattle.fields.specs.Steps.{WroteOn};
 
 // What stands at a place of a text: whether it is of its form, its value, and where the text goes on after it.
 pub struct Field {
@@ -166,7 +166,7 @@ fn width_of(x: u64) -> usize
 // Writes a word at a place, and says where it ends.
 pub fn put_word(out: &mut [u8], at: usize, word: &[u8]) -> usize
     requires { ⌜ at + length (now word) ≤ length (now out) ⌝ }
-    ensures { λ r. ⌜ (r ≡ at + length (now (word .entry))) × (now (out .exit) ≡ placed at (length (now (word .entry))) (now (out .entry)) (now (word .entry))) ⌝ }
+    ensures { λ r. ⌜ WroteOn (now (word .entry)) at (now (out .entry)) r (now (out .exit)) ⌝ }
 {
     let end = at + word.len();
     copy_bytes(&mut out[at..end], word);
@@ -176,7 +176,7 @@ pub fn put_word(out: &mut [u8], at: usize, word: &[u8]) -> usize
 // Writes bits at a place, and says where they end.
 pub fn put_bits(out: &mut [u8], at: usize, x: u64) -> usize
     requires { ⌜ at + 16 ≤ length (now out) ⌝ }
-    ensures { λ r. ⌜ (r ≡ at + 16) × (now (out .exit) ≡ placed at 16 (now (out .entry)) (bitsText x)) ⌝ }
+    ensures { λ r. ⌜ WroteOn (bitsText x) at (now (out .entry)) r (now (out .exit)) ⌝ }
 {
     let end = at + 16;
     write_digits(&mut out[at..end], x, 16);
@@ -185,12 +185,31 @@ pub fn put_bits(out: &mut [u8], at: usize, x: u64) -> usize
 
 // Writes a count at a place, and says where it ends.
 pub fn put_count(out: &mut [u8], at: usize, x: u64) -> usize
-    requires { ⌜ at + 20 ≤ length (now out) ⌝ }
-    ensures { λ r. ⌜ (r ≡ at + widthOf x) × (now (out .exit) ≡ placed at (widthOf x) (now (out .entry)) (countText x)) ⌝ }
+    requires { ⌜ at + widthOf x ≤ length (now out) ⌝ }
+    ensures { λ r. ⌜ WroteOn (countText x) at (now (out .entry)) r (now (out .exit)) ⌝ }
 {
     let end = at + width_of(x);
     write_digits(&mut out[at..end], x, 10);
     end
+}
+
+// Writes a count and a tab.
+pub fn put_tabbed(out: &mut [u8], at: usize, x: u64) -> usize
+    requires { ⌜ at + widthOf x + 1 ≤ length (now out) ⌝ }
+    ensures { λ r. ⌜ WroteOn (tabbed x) at (now (out .entry)) r (now (out .exit)) ⌝ }
+{
+    let a = put_count(&mut out[..], at, x);
+    put_word(out, a, b"\t")
+}
+
+// Writes a word, a number and a newline.
+pub fn put_note(out: &mut [u8], at: usize, word: &[u8], number: u64) -> usize
+    requires { ⌜ at + length (now word) + widthOf number + 1 ≤ length (now out) ⌝ }
+    ensures { λ r. ⌜ WroteOn (noteText (now (word .entry)) number) at (now (out .entry)) r (now (out .exit)) ⌝ }
+{
+    let a = put_word(&mut out[..], at, word);
+    let b = put_count(&mut out[..], a, number);
+    put_word(out, b, b"\n")
 }
 
 // b in the place of a, which is as long.

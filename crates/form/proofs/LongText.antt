@@ -1,4 +1,5 @@
--- A text of more than 40000 bytes has a wrong line, and every text that begins with it has the same first one: every place that is read lies before, and a sheet of the form is shorter.
+-- A text of more than 40000 bytes has a wrong line, and every text that begins with it has the same first one: every place that is read lies before, and a
+-- sheet of the form is shorter.
 use Prim.Native.Nat.{ℕ, zero, suc, _+_, _*_, _≤_, _<_}
 use mathlib.Core.Path.{_≡_, refl, sym, ap, _∙_}
 use mathlib.Core.Bool.{Bool, true, false, _&&_}

@@ -1,4 +1,5 @@
--- What is of the form is taken: the text of a sheet that fits has no wrong line, and what is read from it is what the sheet says. The text is parted at the fields, each is read where it stands.
+-- What is of the form is taken: the text of a sheet that fits has no wrong line, and what is read from it is what the sheet says. The text is parted at
+-- the fields, each is read where it stands.
 use borrow.Author.Tests.{leb-true, ltb-true, le-leb}
 use Prim.Native.Nat.{ℕ, zero, suc, _+_, _*_, _/_, _%_, _^_, _≤_, _<_}
 use mathlib.Core.Path.{_≡_, refl, sym, ap, _∙_, subst}
@@ -31,7 +32,8 @@ use Rattle.head.specs.declared.Head.{Head}
 use Rattle.head.proofs.Fields.{cap-dash, cap-count, sizes-is, within-is, rule-target, rule-within, head-is}
 use Rattle.form.specs.Form.{lineLong, isEntry, colWord, isColumn, endOf, wrongLine}
 use Rattle.form.specs.Reading.{weightsOf, matrixOf}
-use Rattle.form.specs.Sheets.{Wish, target, within, Sheet, capText, wishText, headText, entriesText, columnText, columnsText, sheetText, capFits, wishFits, Fits, ruleOf, Says}
+use Rattle.form.specs.Sheets.{Wish, target, within, Sheet, capText, wishText, headText, entriesText, columnText, columnsText}
+use Rattle.form.specs.Sheets.{sheetText, capFits, wishFits, Fits, ruleOf, Says}
 use Rattle.form.proofs.Segments.{Seg, seg-first, seg-rest, seg-after, seg-byte, seg-word, seg-bits, seg-bits-at, seg-count, seg-digit, whole-seg}
 use Rattle.form.proofs.Lines.{right-back}
 
@@ -69,7 +71,8 @@ rule-read {t} {i} {p} (within x cap) h a e =
     let fit = both (ltb x (2 ^ 64)) (capFits cap) h in
     let s : spelled withinWord t i ≡ true = seg-word withinWord (seg-first withinWord (bitsText x ++ (tab ∷ capText cap)) a) in
     let b : Seg t (i + 7) p (bitsText x ++ (tab ∷ capText cap)) = seg-rest withinWord (bitsText x ++ (tab ∷ capText cap)) a in
-    let f : bitsAt t (i + 7) ≡ record { ok = true; value = x; next = i + 7 + 16 } = seg-bits-at x (ltb-true x (2 ^ 64) (fit .0)) (seg-first (bitsText x) (tab ∷ capText cap) b) in
+    let f : bitsAt t (i + 7) ≡ record { ok = true; value = x; next = i + 7 + 16 } = seg-bits-at x (ltb-true x (2 ^ 64) (fit .0))
+    (seg-first (bitsText x) (tab ∷ capText cap) b) in
     let l : i + 7 + length (bitsText x) ≡ i + 7 + 16 = ap (λ (z : ℕ). i + 7 + z) (length-bits x) in
     let c : Seg t (i + 7 + 16) p (tab ∷ capText cap) = rw l at (seg-rest (bitsText x) (tab ∷ capText cap) b) in
     let q : suc (i + 7 + 16) ≡ i + 7 + 17 = omega arith in
@@ -97,7 +100,8 @@ sizes-read {t} {i} {k} m n rest h g a =
     let f : countAt t (suc j) ≡ record { ok = true; value = n; next = l } = seg-count n (omega arith) (seg-first (countText n) _ c) (ap isDigit (seg-byte d)) in
     let f' : countAt t (j + 1) ≡ record { ok = true; value = n; next = l } = ap (countAt t) (add-one j) ∙ f in
     let z : record { ok = (true && (leb m 32 && true)) && (true && (leb n 64 && true)); m = m; n = n; next = l + 1 } ≡ sizesAt t i =
-    sizes-is t i tab tab (record { ok = true; value = m; next = j }) (record { ok = true; value = n; next = l }) (sym e) (sym (seg-byte b)) (sym f') (sym (seg-byte d)) in
+    sizes-is t i tab tab (record { ok = true; value = m; next = j }) (record { ok = true; value = n; next = l }) (sym e)
+    (sym (seg-byte b)) (sym f') (sym (seg-byte d)) in
     record {
       next = suc l;
       read = sym z ∙ rw (le-leb m 32 h, le-leb n 64 g, add-one l);
@@ -112,7 +116,8 @@ head-read {t} {e} s fit a =
     let z : SizesRead t 5 e (s .m) (s .n) (bitsText (s .seed) ++ (tab ∷ end)) =
     sizes-read (s .m) (s .n) (bitsText (s .seed) ++ (tab ∷ end)) (fit .columns) (fit .rows) (seg-rest thinWord _ a) in
     let i : ℕ = z .next in
-    let f : bitsAt t i ≡ record { ok = true; value = s .seed; next = i + 16 } = seg-bits-at (s .seed) (fit .seeds) (seg-first (bitsText (s .seed)) (tab ∷ end) (z .behind)) in
+    let f : bitsAt t i ≡ record { ok = true; value = s .seed; next = i + 16 } = seg-bits-at (s .seed) (fit .seeds)
+    (seg-first (bitsText (s .seed)) (tab ∷ end) (z .behind)) in
     let l : i + length (bitsText (s .seed)) ≡ i + 16 = ap (λ (x : ℕ). i + x) (length-bits (s .seed)) in
     let b : Seg t (i + 16) e (tab ∷ end) = rw l at (seg-rest (bitsText (s .seed)) (tab ∷ end) (z .behind)) in
     let q : suc (i + 16) ≡ i + 17 = omega arith in
@@ -123,7 +128,8 @@ head-read {t} {e} s fit a =
     rule-read (s .wish) (fit .wishes) (seg-first (wishText (s .wish)) (newline ∷ []) c) (seg-byte d) in
     let all : record { ok = true; m = s .m; n = s .n; seed = s .seed; rule = ruleOf (s .wish); next = p + 1 } ≡ headOf t =
     head-is t true (record { ok = true; m = s .m; n = s .n; next = i }) (record { ok = true; value = s .seed; next = i + 16 }) tab newline
-    (record { ok = true; rule = ruleOf (s .wish); next = p }) (sym (seg-word thinWord (seg-first thinWord _ a))) (sym (z .read)) (sym f) (sym (seg-byte b)) (sym r) (sym (seg-byte d)) in
+    (record { ok = true; rule = ruleOf (s .wish); next = p }) (sym (seg-word thinWord (seg-first thinWord _ a))) (sym (z .read))
+    (sym f) (sym (seg-byte b)) (sym r) (sym (seg-byte d)) in
     rw (d .ends) (sym all)
 
 length-entries : (e : ℕ → ℕ) (k : ℕ) → length (entriesText e k) ≡ 17 * k
@@ -134,7 +140,13 @@ length-entries e (suc k) = length-append (entriesText e k) _ ∙ omega (arith, l
 length-column : (n w : ℕ) (e : ℕ → ℕ) → length (columnText n w e) ≡ lineLong n
 unfolding columnText
 length-column n w e =
-    omega (arith, length-append (bitsText w) (entriesText e n ++ (newline ∷ [])), length-append (entriesText e n) (newline ∷ []), length-bits w, length-entries e n)
+    omega (
+      arith,
+      length-append (bitsText w) (entriesText e n ++ (newline ∷ [])),
+      length-append (entriesText e n) (newline ∷ []),
+      length-bits w,
+      length-entries e n,
+    )
 
 pub length-columns : (s : Sheet) (k : ℕ) → length (columnsText s k) ≡ k * lineLong (s .n)
 unfolding columnsText
@@ -156,7 +168,8 @@ entries-read : {t : List ℕ} {i j : ℕ} (e : ℕ → ℕ) (k : ℕ) → ((q : 
     → (q : ℕ) → q < k → EntryRead t (i + 17 * q) (e q)
 unfolding entriesText
 entries-read {t} {i} {j} e zero h a q l = absurd (omega arith)
-entries-read {t} {i} {j} e (suc k) h a q l = go (decLt q k) (entries-read e k (λ x g. h x (omega arith)) (seg-first (entriesText e k) (tab ∷ bitsText (e k)) a) q)
+entries-read {t} {i} {j} e (suc k) h a q l = go (decLt q k)
+    (entries-read e k (λ x g. h x (omega arith)) (seg-first (entriesText e k) (tab ∷ bitsText (e k)) a) q)
   where
     go : Dec (q < k) → (q < k → EntryRead t (i + 17 * q) (e q)) → EntryRead t (i + 17 * q) (e q)
     go (yes g) r = r g
@@ -189,7 +202,9 @@ column-read {t} {i} {j} n w e h g a =
     record {
       good =
           all-of (spelled colWord t i) (isBits t (i + 4)) (allTo (λ x. isEntry t (i + 20 + 17 * x)) n) (eqb (byteAt t (i + 20 + 17 * n)) newline)
-          (seg-word colWord (seg-first colWord _ a)) (weight .0) (every-holds (λ x. isEntry t (i + 20 + 17 * x)) n (λ q m. entry q m .good)) (ap (λ (x : ℕ). eqb x newline) (seg-byte d));
+          (seg-word colWord (seg-first colWord _ a)) (weight .0)
+          (every-holds (λ x. isEntry t (i + 20 + 17 * x)) n (λ q m. entry q m .good))
+          (ap (λ (x : ℕ). eqb x newline) (seg-byte d));
       weight = weight .1;
       entry = λ q m. ap (λ (x : ℕ). numberAt 16 t x 16) (place q) ∙ entry q m .says;
     }
@@ -226,7 +241,8 @@ place-of m n k h = go (decLt 0 n)
         absurd (omega arith)
 
 -- no line is wrong where the first is read and each column is
-no-line-wrong : (t : List ℕ) (h : Head) → headOf t ≡ h → h .ok ≡ true → ((j : ℕ) → j < h .m → isColumn t (h .n) (h .next + j * lineLong (h .n)) ≡ true) → length t ≡ endOf h
+no-line-wrong : (t : List ℕ) (h : Head) → headOf t ≡ h → h .ok ≡ true → ((j : ℕ) → j < h .m → isColumn t (h .n) (h .next + j * lineLong (h .n)) ≡ true)
+    → length t ≡ endOf h
     → wrongLine t ≡ 0
 no-line-wrong t h e f g l =
     right-back t (record { first = ap (λ (x : Head). x .ok) e ∙ f; columns = rw e g; long = l ∙ ap endOf (sym e) })

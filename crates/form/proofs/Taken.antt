@@ -1,4 +1,5 @@
--- What is taken is of the form: a text of which no line is wrong is the text of the sheet that it says. Field by field each stands where it is read, and what stands in a row is joined.
+-- What is taken is of the form: a text of which no line is wrong is the text of the sheet that it says. Field by field each stands where it is read, and
+-- what stands in a row is joined.
 use borrow.Author.Tests.{eqb-true, le-leb, lt-ltb}
 use Prim.Native.Nat.{ℕ, zero, suc, _+_, _*_, _^_, _<_}
 use mathlib.Core.Path.{_≡_, refl, ap}
@@ -23,7 +24,8 @@ use Rattle.head.specs.declared.RuleField.{RuleField}
 use Rattle.head.proofs.Good.{good-sizes, good-head}
 use Rattle.form.specs.Form.{lineLong, isEntry, colWord, isColumn, endOf, wrongLine}
 use Rattle.form.specs.Reading.{weightPlace}
-use Rattle.form.specs.Sheets.{Wish, target, within, capText, wishText, headText, entriesText, columnText, columnsText, sheetText, capFits, wishFits, Fits, ruleOf, wishAt, sheetOf, Says}
+use Rattle.form.specs.Sheets.{Wish, target, within, capText, wishText, headText, entriesText, columnText, columnsText, sheetText}
+use Rattle.form.specs.Sheets.{capFits, wishFits, Fits, ruleOf, wishAt, sheetOf, Says}
 use Rattle.form.proofs.Segments.{Seg, seg-join, seg-whole, byte-seg, word-seg, bits-seg, count-seg, count-most}
 use Rattle.form.proofs.Verdicts.{sized}
 use Rattle.form.proofs.Lines.{right}
@@ -107,7 +109,8 @@ sizes-said t i h =
     (seg-join (count-seg t j (g .second)) (tested t (countAt t j .next) tab (g .closed) (omega arith))))
 
 -- the first line
-head-said : (t : List ℕ) → headOf t .ok ≡ true → (Seg t 0 (headOf t .next) (headText (sheetOf t))) × (wishFits (sheetOf t .wish) ≡ true) × (headOf t .rule ≡ ruleOf (sheetOf t .wish))
+head-said : (t : List ℕ) → headOf t .ok ≡ true → (Seg t 0 (headOf t .next) (headText (sheetOf t))) × (wishFits (sheetOf t .wish) ≡ true)
+    × (headOf t .rule ≡ ruleOf (sheetOf t .wish))
 unfolding headOf allTo
 head-said t h =
     let g = good-head t h in
@@ -123,8 +126,8 @@ head-said t h =
     (simp append-assoc at all, r .fits, r .rule)
 
 -- k entries from i, where each is one
-entries-said : (t : List ℕ) (i : ℕ) (e : ℕ → ℕ) (k : ℕ) → ((q : ℕ) → q < k → isEntry t (i + 17 * q) ≡ true) → ((q : ℕ) → e q ≡ numberAt 16 t (suc (i + 17 * q)) 16)
-    → Seg t i (i + 17 * k) (entriesText e k)
+entries-said : (t : List ℕ) (i : ℕ) (e : ℕ → ℕ) (k : ℕ) → ((q : ℕ) → q < k → isEntry t (i + 17 * q) ≡ true)
+    → ((q : ℕ) → e q ≡ numberAt 16 t (suc (i + 17 * q)) 16) → Seg t i (i + 17 * k) (entriesText e k)
 unfolding entriesText
 entries-said t i e zero h g = record { ends = omega arith; is = refl }
 entries-said t i e (suc k) h g =
@@ -147,7 +150,9 @@ column-said t n i h =
     let weight : Seg t (i + 4) (i + 20) (bitsText (numberAt 16 t (i + 4) 16)) = rw (← p) (bits-seg t (i + 4) (a .1)) in
     seg-join (word-seg colWord t i (omega arith) refl (a .0))
     (seg-join weight
-    (seg-join (entries-said t (i + 20) (λ q. numberAt 16 t (i + 4 + 17 + 17 * q) 16) n (λ q l. every-at (λ k. isEntry t (i + 20 + 17 * k)) n q (b .0) l) (λ q. ap (λ (x : ℕ). numberAt 16 t x 16) (place q)))
+    (seg-join
+    (entries-said t (i + 20) (λ q. numberAt 16 t (i + 4 + 17 + 17 * q) 16) n (λ q l. every-at (λ k. isEntry t (i + 20 + 17 * k)) n q (b .0) l)
+    (λ q. ap (λ (x : ℕ). numberAt 16 t x 16) (place q)))
     (tested-to t (i + 20 + 17 * n) (i + lineLong n) newline (omega arith) (b .1) (omega arith))))
 
 -- the lines of the first k columns

@@ -43,7 +43,9 @@ wishText (within a cap) = withinWord ++ (bitsText a ++ (tab ∷ capText cap))
 
 -- the first line
 abbrev pub headText : Sheet → List ℕ
-headText s = thinWord ++ (countText (s .m) ++ (tab ∷ (countText (s .n) ++ (tab ∷ (bitsText (s .seed) ++ (tab ∷ (wishText (s .wish) ++ (newline ∷ []))))))))
+headText s =
+    thinWord
+    ++ (countText (s .m) ++ (tab ∷ (countText (s .n) ++ (tab ∷ (bitsText (s .seed) ++ (tab ∷ (wishText (s .wish) ++ (newline ∷ []))))))))
 
 -- k entries, each after a tab
 unfoldable pub entriesText : (ℕ → ℕ) → ℕ → List ℕ
@@ -88,7 +90,8 @@ ruleOf (within a cap) = Within (ofBits binary64 a) cap
 
 -- the wish that stands at i
 abbrev pub wishAt : List ℕ → ℕ → Wish
-wishAt text i = pick (spelled targetWord text i) (target (countAt text (i + 7) .value)) (within (bitsAt text (i + 7) .value) (capAt text (i + 7 + 17) .cap))
+wishAt text i = pick (spelled targetWord text i) (target (countAt text (i + 7) .value))
+    (within (bitsAt text (i + 7) .value) (capAt text (i + 7 + 17) .cap))
 
 -- the sheet that a text says, by places
 abbrev pub sheetOf : List ℕ → Sheet

@@ -74,7 +74,8 @@ pub fn wrong_line(text: &[u8]) -> usize
 // Reads the weights of columns that begin at a place.
 pub fn read_weights(weights: &mut [f64], text: &[u8], start: usize, n: usize)
     requires { ⌜ (start ≤ 1000) × (n ≤ 64) × (length (now weights) ≤ 32) ⌝ }
-    ensures { λ _. ⌜ now (weights .exit) ≡ tabulate (λ j. doubleAt (now (text .entry)) (weightPlace start n j)) (length (now (weights .entry))) ⌝ }
+    ensures { λ _. ⌜ now (weights .exit) ≡ tabulate (λ j. doubleAt (now (text .entry)) (weightPlace start n j))
+        (length (now (weights .entry))) ⌝ }
 {
     let mut j = 0usize;
     while j < weights.len() {
@@ -86,7 +87,8 @@ pub fn read_weights(weights: &mut [f64], text: &[u8], start: usize, n: usize)
 // Reads the matrix of columns that begin at a place.
 pub fn read_matrix(matrix: &mut [f64], text: &[u8], start: usize, n: usize)
     requires { ⌜ (start ≤ 1000) × (n ≤ 64) × (length (now matrix) ≤ 32 * n) ⌝ }
-    ensures { λ _. ⌜ now (matrix .exit) ≡ tabulate (λ k. doubleAt (now (text .entry)) (entryPlace start n k)) (length (now (matrix .entry))) ⌝ }
+    ensures { λ _. ⌜ now (matrix .exit) ≡ tabulate (λ k. doubleAt (now (text .entry)) (entryPlace start n k))
+        (length (now (matrix .entry))) ⌝ }
 {
     let mut k = 0usize;
     while k < matrix.len() {

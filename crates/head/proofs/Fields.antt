@@ -54,7 +54,8 @@ sizes-is t i b d f g e p h q =
     rw (add-one (g .next), p', q', h', e)
 
 -- an allowance and a cap, from the bits, the byte between and the cap
-pub within-is : (t : List ℕ) (i b : ℕ) (f : Field) (d : Float) (k : CapField) → f ≡ bitsAt t i → b ≡ byteAt t (i + 16) → k ≡ capAt t (i + 17) → d ≡ ofBits binary64 (f .value)
+pub within-is : (t : List ℕ) (i b : ℕ) (f : Field) (d : Float) (k : CapField) → f ≡ bitsAt t i → b ≡ byteAt t (i + 16) → k ≡ capAt
+    t (i + 17) → d ≡ ofBits binary64 (f .value)
     → record { ok = f .ok && (eqb b 9 && k .ok); rule = Within d (k .cap); next = k .next } ≡ withinAt t i
 unfolding withinAt
 within-is t i b f d k e p h q = rw (q, p, h, e)
@@ -64,7 +65,8 @@ pub rule-target : (t : List ℕ) (i : ℕ) (s : Bool) (r : RuleField) → s ≡ 
 unfolding ruleAt
 rule-target t i s r e h g = rw (← e, h, g)
 
-pub rule-within : (t : List ℕ) (i : ℕ) (s u : Bool) (r : RuleField) → s ≡ spelled targetWord t i → s ≡ false → u ≡ spelled withinWord t i → u ≡ true → r ≡ withinAt t (i + 7)
+pub rule-within : (t : List ℕ) (i : ℕ) (s u : Bool) (r : RuleField) → s ≡ spelled targetWord t i → s ≡ false → u ≡ spelled
+    withinWord t i → u ≡ true → r ≡ withinAt t (i + 7)
     → r ≡ ruleAt t i
 unfolding ruleAt
 rule-within t i s u r e h f k g = rw (← e, h, ← f, k, g)

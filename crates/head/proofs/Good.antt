@@ -32,7 +32,8 @@ pub good-sizes : (t : List ℕ) (i : ℕ) → sizesAt t i .ok ≡ true → GoodS
 unfolding sizesAt
 good-sizes t i h =
     let j : ℕ = suc (countAt t i .next) in
-    let e = both (countAt t i .ok && (leb (countAt t i .value) 32 && eqb (byteAt t (countAt t i .next)) tab)) (countAt t j .ok && (leb (countAt t j .value) 64 && eqb (byteAt t (countAt t j .next)) tab)) h in
+    let e = both (countAt t i .ok && (leb (countAt t i .value) 32 && eqb (byteAt t (countAt t i .next)) tab))
+    (countAt t j .ok && (leb (countAt t j .value) 64 && eqb (byteAt t (countAt t j .next)) tab)) h in
     let a = good-size (countAt t i .ok) (countAt t i .value) 32 (byteAt t (countAt t i .next)) (e .0) in
     let b = good-size (countAt t j .ok) (countAt t j .value) 64 (byteAt t (countAt t j .next)) (e .1) in
     record { first = a .0; columns = a .1; parted = a .2; second = b .0; rows = b .1; closed = b .2 }

@@ -56,7 +56,8 @@ sizes-longer t more i h =
     let a : j ≤ i + 11 = count-next t i in
     let b : g .next ≤ j + 1 + 11 = count-next t (j + 1) in
     sym (sizes-is (t ++ more) i (byteAt t j) (byteAt t (g .next)) (countAt t i) g
-    (sym (count-longer-12 t more i (omega arith))) (sym (byte-longer t more j (omega arith))) (sym (count-longer-12 t more (j + 1) (omega arith))) (sym (byte-longer t more (g .next) (omega arith))))
+    (sym (count-longer-12 t more i (omega arith))) (sym (byte-longer t more j (omega arith)))
+    (sym (count-longer-12 t more (j + 1) (omega arith))) (sym (byte-longer t more (g .next) (omega arith))))
     ∙ sizes-is t i (byteAt t j) (byteAt t (g .next)) (countAt t i) g refl refl refl refl
 
 -- the first line of a text of at least 100 bytes is that of every text that it begins

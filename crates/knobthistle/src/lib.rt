@@ -18,7 +18,7 @@ ghost use Rattle.knobthistle.specs.Caps.{capOf};
 ghost use Rattle.sparsification.specs.Answers.{Thinned};
 ghost use Rattle.rules.specs.declared.Rule.the-variants.{Target, Within};
 ghost use Rattle.margins.specs.Answers.{changeAnswer, turnedAnswer};
-ghost use Rattle.sheet.specs.Steps.{Answered};
+ghost use Rattle.sheet.specs.Answer.{Answered};
 
 // The next uniform draw; the state moves on.
 #[no_mangle]

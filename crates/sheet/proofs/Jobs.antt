@@ -52,8 +52,10 @@ text-same s w x y e = go (eqb (s .number) 0) refl
     go true h = ap (answerText s) (e ∙ ap (λ (b : Bool). pick b x y) h)
     go false h = rw (h)
 
-pub job-wrote : {rule : Rule} {seed : ℕ} {u : List Float} {m n : ℕ} {w output numbers : List Float} {indices : List ℕ} {s : Answer} {output' numbers' : List Float} {indices' : List ℕ}
-    (out : List ℕ) (r : ℕ) (out' : List ℕ) → m ≤ 32 → n ≤ 64 → length u ≡ m * n → length w ≡ m → length output ≡ m → length numbers ≡ 4136 → length indices ≡ 776
+pub job-wrote : {rule : Rule} {seed : ℕ} {u : List Float} {m n : ℕ} {w output numbers : List Float} {indices : List ℕ}
+    {s : Answer} {output' numbers' : List Float} {indices' : List ℕ}
+    (out : List ℕ) (r : ℕ) (out' : List ℕ) → m ≤ 32 → n ≤ 64 → length u ≡ m * n → length w ≡ m → length output ≡ m → length
+    numbers ≡ 4136 → length indices ≡ 776
     → Thinned rule seed u m n w output numbers indices s output' numbers' indices'
     → Wrote (answerText s output') out r out' → Wrote (jobText rule seed u m n w) out r out'
 unfolding jobAnswer

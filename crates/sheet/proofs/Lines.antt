@@ -8,95 +8,73 @@ use native.Mathlib.Omega.{arith}
 use native.Mathlib.Numerals.{add-one}
 use lib.ListN.{length, length-append, take-append-drop}
 use lib.Ieee.{Float, eq, binary64, toBits}
-use Rattle.seq.specs.Lists.{placed}
 use Rattle.seq.specs.Sums.{at}
 use Rattle.ieee.proofs.Magnitudes.{nan-self}
 use Rattle.fields.specs.Bytes.{tab, newline}
-use Rattle.fields.specs.Texts.{bitsText, widthOf, countText}
+use Rattle.fields.specs.Texts.{bitsText, countText, tabbed, noteText}
+use Rattle.fields.specs.Steps.{WroteOn}
 use Rattle.fields.proofs.Widths.{length-bits, length-count, width-most}
+use Rattle.fields.proofs.Puts.{on-two, length-tabbed, length-note}
 use Rattle.sparsification.specs.declared.Answer.{Answer}
 use Rattle.sheet.specs.Words.{okWord, weightWord, refusedWord}
-use Rattle.sheet.specs.Answer.{noteText, okLine, weightLine, weightLines, answerText}
-use Rattle.sheet.specs.Steps.{Wrote, WroteOn}
-use Rattle.sheet.proofs.Puts.{on-two, on-word, on-bits, on-count, front-of, front-more}
+use Rattle.sheet.specs.Answer.{okLine, weightLine, weightLines, answerText}
+use Rattle.sheet.specs.Steps.{Wrote}
+use Rattle.sheet.proofs.Puts.{front-of, front-more}
 
 -- what does not equal itself has the one pattern of a NaN
 pub nan-bits : (x : Float) → eq x x ≡ false → 0x7ff8_0000_0000_0000 ≡ toBits binary64 x
 unfolding toBits
 nan-bits x h = rw (nan-self x h)
 
--- a count and a tab
-abbrev pub tabbed : ℕ → List ℕ
-tabbed x = countText x ++ (tab ∷ [])
-
 -- bits and a newline
 abbrev pub last : Float → List ℕ
 last x = bitsText (toBits binary64 x) ++ (newline ∷ [])
 
-pub length-tabbed : (x : ℕ) → length (tabbed x) ≤ 21
-length-tabbed x = rw (length-append (countText x) (tab ∷ [])) (omega (arith, length-count x, width-most x))
-
 pub length-last : (x : Float) → length (last x) ≡ 17
 length-last x = length-append (bitsText (toBits binary64 x)) (newline ∷ []) ∙ omega (arith, length-bits (toBits binary64 x))
 
-pub tabbed-wrote : (x a : ℕ) (out : List ℕ) (b : ℕ) (o : List ℕ) (r : ℕ) (o' : List ℕ) → a + 21 ≤ length out
-    → (b ≡ a + widthOf x) × (o ≡ placed a (widthOf x) out (countText x)) → (r ≡ b + 1) × (o' ≡ placed b 1 o (tab ∷ []))
-    → WroteOn (tabbed x) a out r o'
-tabbed-wrote x a out b o r o' h p q =
-    on-two (on-count x a out b o p) (on-word (tab ∷ []) b o r o' q) (omega (arith, length-count x, width-most x))
-
-pub last-wrote : (x : Float) (y a : ℕ) (out : List ℕ) (b : ℕ) (o : List ℕ) (r : ℕ) (o' : List ℕ) → a + 17 ≤ length out → y ≡ toBits binary64 x
-    → (b ≡ a + 16) × (o ≡ placed a 16 out (bitsText y)) → (r ≡ b + 1) × (o' ≡ placed b 1 o (newline ∷ []))
-    → WroteOn (last x) a out r o'
-last-wrote x y a out b o r o' h e p q =
-    on-two (on-bits (toBits binary64 x) a out b o (rw e at p)) (on-word (newline ∷ []) b o r o' q) (omega (arith, length-bits (toBits binary64 x)))
-
--- a word and a number
-pub note-wrote : (word : List ℕ) (x : ℕ) (out : List ℕ) (a : ℕ) (o : List ℕ) (b : ℕ) (o' : List ℕ) (r : ℕ) (o'' : List ℕ) → length word + 21 ≤ length out
-    → length o ≡ length out
-    → (a ≡ 0 + length word) × (o ≡ placed 0 (length word) out word)
-    → (b ≡ a + widthOf x) × (o' ≡ placed a (widthOf x) o (countText x))
-    → (r ≡ b + 1) × (o'' ≡ placed b 1 o' (newline ∷ []))
-    → Wrote (noteText word x) out r o''
-unfolding noteText
-note-wrote word x out a o b o' r o'' h g p q s =
-    let w : ℕ = widthOf x in
-    front-of
-    (on-two (on-word word 0 out a o p)
-    (on-two (on-count x a o b o' q) (on-word (newline ∷ []) b o' r o'' s) (omega (arith, length-count x, width-most x, p .0)))
-    (omega arith))
-    (rw (length-append word (countText x ++ (newline ∷ [])), length-append (countText x) (newline ∷ [])) (omega (arith, length-count x, width-most x)))
+pub last-wrote : {out o o' : List ℕ} {a b r : ℕ} (x : Float) (y : ℕ) → a + 17 ≤ length out → y ≡ toBits binary64 x → WroteOn (bitsText y) a out b o
+    → WroteOn (newline ∷ []) b o r o' → WroteOn (last x) a out r o'
+last-wrote x y h e p q = on-two (rw e at p) q (omega (arith, length-bits (toBits binary64 x)))
 
 pub length-ok : (s : Answer) → length (okLine s) ≤ 62
 unfolding okLine
 length-ok s =
-    rw (length-append (countText (s .stage)) (tab ∷ (countText (s .nonzeros) ++ (tab ∷ last (s .change)))), length-append (countText (s .nonzeros)) (tab ∷ last (s .change)))
+    rw (
+      length-append (countText (s .stage)) (tab ∷ (countText (s .nonzeros) ++ (tab ∷ last (s .change)))),
+      length-append (countText (s .nonzeros)) (tab ∷ last (s .change)),
+    )
     (omega (arith, length-count (s .stage), width-most (s .stage), length-count (s .nonzeros), width-most (s .nonzeros), length-last (s .change)))
 
 -- the first line
 pub ok-wrote : (s : Answer) (out : List ℕ) (a : ℕ) (o : List ℕ) (b : ℕ) (o' : List ℕ) (d : ℕ) (o'' : List ℕ) (r : ℕ) (o''' : List ℕ) → 62 ≤ length out
     → length o ≡ length out → length o' ≡ length out
-    → (a ≡ 0 + 3) × (o ≡ placed 0 3 out okWord) → WroteOn (tabbed (s .stage)) a o b o' → WroteOn (tabbed (s .nonzeros)) b o' d o''
+    → WroteOn okWord 0 out a o → WroteOn (tabbed (s .stage)) a o b o' → WroteOn (tabbed (s .nonzeros)) b o' d o''
     → WroteOn (last (s .change)) d o'' r o''' → Wrote (okLine s) out r o'''
 unfolding okLine
 ok-wrote s out a o b o' d o'' r o''' h g k p q t v =
     let x = length-tabbed (s .stage) in
     let y = length-tabbed (s .nonzeros) in
+    let f = width-most (s .stage) in
+    let e = width-most (s .nonzeros) in
     let z = length-last (s .change) in
-    let tail = on-two t v (omega (arith, q .ends, p .0)) in
-    let rest = on-two q (rw (append-assoc (countText (s .nonzeros)) (tab ∷ []) (last (s .change))) at tail) (omega (arith, p .0)) in
-    let whole = on-two (on-word okWord 0 out a o p) (rw (append-assoc (countText (s .stage)) (tab ∷ []) (countText (s .nonzeros) ++ (tab ∷ last (s .change)))) at rest) (omega arith) in
+    let tail = on-two t v (omega (arith, q .ends, p .ends)) in
+    let rest = on-two q (rw (append-assoc (countText (s .nonzeros)) (tab ∷ []) (last (s .change))) at tail) (omega (arith, p .ends)) in
+    let whole = on-two p
+    (rw (append-assoc (countText (s .stage)) (tab ∷ []) (countText (s .nonzeros) ++ (tab ∷ last (s .change)))) at rest)
+    (omega arith) in
     front-of whole (omega (arith, length-ok s))
 
 -- a weight's line
 pub weight-wrote : (j : ℕ) (w : Float) (i : ℕ) (out : List ℕ) (a : ℕ) (o : List ℕ) (b : ℕ) (o' : List ℕ) (r : ℕ) (o'' : List ℕ) → i + 40 ≤ length out
     → length o ≡ length out
-    → (a ≡ i + 2) × (o ≡ placed i 2 out weightWord) → WroteOn (tabbed j) a o b o' → WroteOn (last w) b o' r o''
+    → WroteOn weightWord i out a o → WroteOn (tabbed j) a o b o' → WroteOn (last w) b o' r o''
     → WroteOn (weightLine j w) i out r o''
 weight-wrote j w i out a o b o' r o'' h g p q t =
     let x = length-tabbed j in
-    let rest = on-two q t (omega (arith, p .0)) in
-    on-two (on-word weightWord i out a o p) (rw (append-assoc (countText j) (tab ∷ []) (last w)) at rest) (omega arith)
+    let f = width-most j in
+    let rest = on-two q t (omega (arith, p .ends)) in
+    on-two p (rw (append-assoc (countText j) (tab ∷ []) (last w)) at rest) (omega arith)
 
 pub length-line : (j : ℕ) (w : Float) → length (weightLine j w) ≤ 40
 length-line j w =
@@ -145,10 +123,11 @@ lining-whole {w} {i} {out} {j} {r} {o} e h =
     rw p at (e .is)
 
 -- the answer of a job: a refusal's note, or the first line and the weights'
-pub answer-refused : (s : Answer) (w : List Float) (out : List ℕ) (r : ℕ) (o : List ℕ) → (s .number ≡ 0 → ⊥)
-    → Wrote (noteText refusedWord (s .number)) out r o → Wrote (answerText s w) out r o
+pub answer-refused : (s : Answer) (w : List Float) (out : List ℕ) (r : ℕ) (o : List ℕ) → (s .number ≡ 0 → ⊥) → 62 ≤ length out
+    → WroteOn (noteText refusedWord (s .number)) 0 out r o → Wrote (answerText s w) out r o
 unfolding answerText
-answer-refused s w out r o h e = rw (ne-eqb (s .number) 0 h) e
+answer-refused s w out r o h g e =
+    rw (ne-eqb (s .number) 0 h) (front-of e (omega (arith, length-note refusedWord (s .number), width-most (s .number))))
 
 pub answer-accepted : (s : Answer) (w : List Float) (out : List ℕ) (a : ℕ) (o : List ℕ) (r : ℕ) (o' : List ℕ) → s .number ≡ 0
     → 62 + 40 * length w ≤ length out → a ≤ 62

@@ -15,7 +15,8 @@ use Rattle.seq.specs.Choice.{pick}
 use Rattle.seq.specs.Lists.{tabulate}
 use Rattle.seq.specs.Sums.{plusZero}
 use Rattle.seq.proofs.Filling.{length-tab}
-use Rattle.fields.proofs.Widths.{length-count, width-most}
+use Rattle.fields.proofs.Widths.{width-most}
+use Rattle.fields.proofs.Puts.{length-note}
 use Rattle.limits.specs.Matrix.{columnsOf}
 use Rattle.weights.specs.Weights.{normalized}
 use Rattle.sparsification.specs.declared.Answer.{Answer}
@@ -29,11 +30,12 @@ use Rattle.form.specs.Reading.{doubleAt, weightPlace, weightsOf, matrixOf}
 use Rattle.form.proofs.Lines.{right}
 use Rattle.form.proofs.LongText.{long-text-is-wrong, first-bytes-same-line}
 use Rattle.form.proofs.Verdicts.{Sized, sized}
-use Rattle.fields.specs.Bytes.{newline}
-use Rattle.fields.specs.Texts.{countText}
+use Rattle.fields.specs.Texts.{noteText}
+use Rattle.fields.specs.Steps.{WroteOn}
 use Rattle.sheet.specs.Words.{badWord, refusedWord}
-use Rattle.sheet.specs.Answer.{noteText, okLine, weightLines, answerText, jobAnswer, jobText, sheetAnswer}
-use Rattle.sheet.specs.Steps.{Wrote, Answered}
+use Rattle.sheet.specs.Answer.{okLine, weightLines, answerText, jobAnswer, jobText, sheetAnswer, Answered}
+use Rattle.sheet.specs.Steps.{Wrote}
+use Rattle.sheet.proofs.Puts.{front-of}
 use Rattle.sheet.proofs.Lines.{length-ok, length-lines}
 
 -- the sizes of a sheet of the form
@@ -66,10 +68,11 @@ pub job-read : (t : List ℕ) (h : Head) (u w : List Float) (out : List ℕ) (r 
     → Wrote (jobText (h .rule) (h .seed) (matrixOf t h) (h .m) (h .n) (weightsOf t h)) out r out'
 job-read t h u w out r out' e f g = rw (← e, ← f) g
 
-pub sheet-bad : (t : List ℕ) (line : ℕ) (out : List ℕ) (r : ℕ) (out' : List ℕ) → line ≡ wrongLine t → (line ≡ 0 → ⊥) → Wrote (noteText badWord line) out r out'
+pub sheet-bad : (t : List ℕ) (line : ℕ) (out : List ℕ) (r : ℕ) (out' : List ℕ) → line ≡ wrongLine t → (line ≡ 0 → ⊥)
+    → WroteOn (noteText badWord line) 0 out r out' → 1342 ≤ length out
     → Wrote (sheetAnswer t) out r out'
 unfolding sheetAnswer
-sheet-bad t line out r out' e h g = rw (← e, ne-eqb line 0 h) g
+sheet-bad t line out r out' e h g room = rw (← e, ne-eqb line 0 h) (front-of g (omega (arith, length-note badWord line, width-most line)))
 
 pub sheet-good : (t : List ℕ) (line : ℕ) (h : Head) (out : List ℕ) (r : ℕ) (out' : List ℕ) → line ≡ wrongLine t → line ≡ 0 → h ≡ headOf t
     → Wrote (jobText (h .rule) (h .seed) (matrixOf t h) (h .m) (h .n) (weightsOf t h)) out r out'
@@ -98,19 +101,14 @@ does-fit t answer out r out' ys answer' w h e g =
 pub sole-answer : {t answer : List ℕ} {r s : ℕ} {one two : List ℕ} → Answered t answer r one → Answered t answer s two → (r ≡ s) × (one ≡ two)
 sole-answer p q = (p .says ∙ sym (q .says), p .writes ∙ sym (q .writes))
 
--- how long a note and a job's answer can be
-length-note : (word : List ℕ) (x : ℕ) → length (noteText word x) ≤ length word + 21
-unfolding noteText
-length-note word x =
-    rw (length-append word (countText x ++ (newline ∷ [])), length-append (countText x) (newline ∷ [])) (omega (arith, length-count x, width-most x))
-
+-- how long a job's answer can be
 length-answer : (s : Answer) (w : List Float) → length w ≤ 32 → length (answerText s w) ≤ 1342
 unfolding answerText
 length-answer s w h = go (eqb (s .number) 0)
   where
     go : (t : Bool) → length (pick t (okLine s ++ weightLines w (length w)) (noteText refusedWord (s .number))) ≤ 1342
     go true = rw (length-append (okLine s) (weightLines w (length w))) (omega (arith, length-ok s, length-lines w (length w)))
-    go false = omega (arith, length-note refusedWord (s .number))
+    go false = omega (arith, length-note refusedWord (s .number), width-most (s .number))
 
 length-returned : (u : List Float) (n : ℕ) (w : List Float) (seed : ℕ) (rule : Rule) → length (returned u n w seed rule .w) ≡ length w
 length-returned u n w seed rule =
@@ -118,8 +116,13 @@ length-returned u n w seed rule =
 
 length-job : (t : List ℕ) (h : Head) → h .m ≤ 32 → length (jobText (h .rule) (h .seed) (matrixOf t h) (h .m) (h .n) (weightsOf t h)) ≤ 1342
 length-job t h g =
-    length-answer (jobAnswer (h .rule) (h .seed) (matrixOf t h) (h .m) (h .n) (weightsOf t h)) (returned (matrixOf t h) (h .n) (weightsOf t h) (h .seed) (h .rule) .w)
-    (omega (arith, length-returned (matrixOf t h) (h .n) (weightsOf t h) (h .seed) (h .rule), length-tab (λ j. doubleAt t (weightPlace (h .next) (h .n) j)) (h .m)))
+    length-answer (jobAnswer (h .rule) (h .seed) (matrixOf t h) (h .m) (h .n) (weightsOf t h))
+    (returned (matrixOf t h) (h .n) (weightsOf t h) (h .seed) (h .rule) .w)
+    (omega (
+      arith,
+      length-returned (matrixOf t h) (h .n) (weightsOf t h) (h .seed) (h .rule),
+      length-tab (λ j. doubleAt t (weightPlace (h .next) (h .n) j)) (h .m),
+    ))
 
 -- every answer has at most 1342 bytes
 pub answer-most : (t : List ℕ) → length (sheetAnswer t) ≤ 1342
@@ -127,12 +130,14 @@ unfolding sheetAnswer
 answer-most t = go (eqb (wrongLine t) 0) refl
   where
     go : (s : Bool) → eqb (wrongLine t) 0 ≡ s
-        → length (pick s (jobText (headOf t .rule) (headOf t .seed) (matrixOf t (headOf t)) (headOf t .m) (headOf t .n) (weightsOf t (headOf t))) (noteText badWord (wrongLine t))) ≤ 1342
+        → length (pick s (jobText (headOf t .rule) (headOf t .seed) (matrixOf t (headOf t)) (headOf t .m) (headOf t .n)
+        (weightsOf t (headOf t))) (noteText badWord (wrongLine t))) ≤ 1342
     go true e = length-job t (headOf t) (sizes-of t (headOf t) (wrongLine t) refl (eqb-true (wrongLine t) 0 e) refl .columns)
-    go false e = omega (arith, length-note badWord (wrongLine t))
+    go false e = omega (arith, length-note badWord (wrongLine t), width-most (wrongLine t))
 
 -- so a buffer of 1342 bytes always gets the answer
-pub always-fits : {t answer : List ℕ} {r : ℕ} {answer' : List ℕ} → 1342 ≤ length answer → Answered t answer r answer' → (r ≡ length (sheetAnswer t)) × (take r answer' ≡ sheetAnswer t)
+pub always-fits : {t answer : List ℕ} {r : ℕ} {answer' : List ℕ} → 1342 ≤ length answer → Answered t answer r answer' → (r ≡ length (sheetAnswer t))
+    × (take r answer' ≡ sheetAnswer t)
 always-fits {t} {answer} {r} {answer'} h a =
     let f = le-leb (length (sheetAnswer t)) (length answer) (omega (arith, answer-most t)) in
     let l : r ≡ length (sheetAnswer t) = rw f at (a .says) in

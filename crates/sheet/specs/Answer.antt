@@ -1,14 +1,15 @@
 -- The text of each answer.
 use Prim.Native.Nat.{ℕ, zero, suc}
+use mathlib.Core.Path.{_≡_}
 use mathlib.Core.Bool.{_||_}
 use mathlib.Core.List.{List, [], _∷_, _++_}
-use lib.Dec.{eqb}
-use lib.ListN.{length}
+use lib.Dec.{eqb, leb}
+use lib.ListN.{length, drop}
 use lib.Ieee.{Float, binary64, toBits}
 use Rattle.seq.specs.Choice.{pick, orElse}
 use Rattle.seq.specs.Sums.{at}
 use Rattle.fields.specs.Bytes.{tab, newline}
-use Rattle.fields.specs.Texts.{bitsText, countText}
+use Rattle.fields.specs.Texts.{bitsText, countText, noteText}
 use Rattle.rules.specs.declared.Rule.{Rule}
 use Rattle.sparsification.specs.declared.Answer.{Answer}
 use Rattle.rules.specs.Rules.{ruleFault}
@@ -18,10 +19,6 @@ use Rattle.sheet.specs.Words.{okWord, weightWord, refusedWord, badWord}
 use Rattle.head.specs.FirstLine.{headOf}
 use Rattle.form.specs.Form.{wrongLine}
 use Rattle.form.specs.Reading.{weightsOf, matrixOf}
-
--- a word and a number: "refused" with the refusal's, "bad" with the line's
-unfoldable pub noteText : List ℕ → ℕ → List ℕ
-noteText word number = word ++ (countText number ++ (newline ∷ []))
 
 -- the line of weight j
 abbrev pub weightLine : ℕ → Float → List ℕ
@@ -34,7 +31,9 @@ weightLines w (suc k) = weightLines w k ++ weightLine k (at w k)
 
 -- the first line of an accepted job's answer
 unfoldable pub okLine : Answer → List ℕ
-okLine r = okWord ++ (countText (r .stage) ++ (tab ∷ (countText (r .nonzeros) ++ (tab ∷ (bitsText (toBits binary64 (r .change)) ++ (newline ∷ []))))))
+okLine r =
+    okWord
+    ++ (countText (r .stage) ++ (tab ∷ (countText (r .nonzeros) ++ (tab ∷ (bitsText (toBits binary64 (r .change)) ++ (newline ∷ []))))))
 
 -- the answer of a job and the weights that it returned
 unfoldable pub answerText : Answer → List Float → List ℕ
@@ -56,5 +55,13 @@ jobText rule seed u m n w = answerText (jobAnswer rule seed u m n w) (returned u
 unfoldable pub sheetAnswer : List ℕ → List ℕ
 sheetAnswer text =
     pick (eqb (wrongLine text) 0)
-    (jobText (headOf text .rule) (headOf text .seed) (matrixOf text (headOf text)) (headOf text .m) (headOf text .n) (weightsOf text (headOf text)))
+    (jobText (headOf text .rule) (headOf text .seed) (matrixOf text (headOf text)) (headOf text .m)
+    (headOf text .n) (weightsOf text (headOf text)))
     (noteText badWord (wrongLine text))
+
+-- the answer of a sheet in a lent buffer: the rest of the buffer is left alone, and all of it where the answer does not fit, for which
+-- 0 is said
+pub record Answered (text : List ℕ) (answer : List ℕ) (r : ℕ) (answer' : List ℕ) : Type 0 where
+  pub says : r ≡ pick (leb (length (sheetAnswer text)) (length answer)) (length (sheetAnswer text)) 0
+  pub writes : answer' ≡ pick (leb (length (sheetAnswer text)) (length answer))
+      (sheetAnswer text ++ drop (length (sheetAnswer text)) answer) answer

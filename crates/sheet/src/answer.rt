@@ -1,6 +1,7 @@
 // The text of an answer, written in a buffer.
 use fields::put_bits;
-use fields::put_count;
+use fields::put_note;
+use fields::put_tabbed;
 use fields::put_word;
 use sparsification::Answer;
 ghost use mathlib.Core.Path.{_≡_};
@@ -8,10 +9,11 @@ ghost use Prim.Native.Nat.{_+_, _≤_, _*_};
 ghost use mathlib.Core.List.{[], _∷_, _++_};
 ghost use lib.ListN.{length};
 ghost use lib.Ieee.{binary64, toBits};
-ghost use Rattle.fields.specs.Bytes.{tab, newline};
-ghost use Rattle.fields.specs.Texts.{bitsText, countText};
-ghost use Rattle.sheet.specs.Answer.{noteText, okLine, weightLine, weightLines, answerText};
-ghost use Rattle.sheet.specs.Steps.{Wrote, WroteOn};
+ghost use Rattle.fields.specs.Bytes.{newline};
+ghost use Rattle.fields.specs.Texts.{bitsText};
+ghost use Rattle.fields.specs.Steps.{WroteOn};
+ghost use Rattle.sheet.specs.Answer.{okLine, weightLine, weightLines, answerText};
+ghost use Rattle.sheet.specs.Steps.{Wrote};
 
 // The bits of a double; every NaN has one pattern.
 fn pattern(x: f64) -> u64
@@ -22,25 +24,6 @@ fn pattern(x: f64) -> u64
     } else {
         0x7ff8_0000_0000_0000
     }
-}
-
-// Writes a word and a number.
-pub fn put_note(out: &mut [u8], word: &[u8], number: u64) -> usize
-    requires { ⌜ length (now word) + 21 ≤ length (now out) ⌝ }
-    ensures { λ r. ⌜ Wrote (noteText (now (word .entry)) number) (now (out .entry)) r (now (out .exit)) ⌝ }
-{
-    let a = put_word(&mut out[..], 0, word);
-    let b = put_count(&mut out[..], a, number);
-    put_word(out, b, b"\n")
-}
-
-// Writes a count and a tab.
-fn put_tabbed(out: &mut [u8], at: usize, x: u64) -> usize
-    requires { ⌜ at + 21 ≤ length (now out) ⌝ }
-    ensures { λ r. ⌜ WroteOn (countText x ++ (tab ∷ [])) at (now (out .entry)) r (now (out .exit)) ⌝ }
-{
-    let a = put_count(&mut out[..], at, x);
-    put_word(out, a, b"\t")
 }
 
 // Writes bits and a newline.
@@ -93,7 +76,7 @@ pub fn put_answer(out: &mut [u8], r: Answer, w: &[f64]) -> usize
     ensures { λ r'. ⌜ Wrote (answerText r (now (w .entry))) (now (out .entry)) r' (now (out .exit)) ⌝ }
 {
     if r.number != 0 {
-        return put_note(out, b"refused\t", r.number);
+        return put_note(out, 0, b"refused\t", r.number);
     }
     let end = put_ok(&mut out[..], r);
     put_weights(out, end, w)

@@ -2,8 +2,8 @@
 mod answer;
 
 use crate::answer::put_answer;
-use crate::answer::put_note;
 use fields::copy_bytes;
+use fields::put_note;
 use form::read_matrix;
 use form::read_weights;
 use form::wrong_line;
@@ -16,8 +16,8 @@ ghost use mathlib.Core.Path.{_≡_};
 ghost use Prim.Native.Nat.{_*_, _≤_};
 ghost use lib.ListN.{length};
 ghost use Rattle.form.specs.Reading.{weightsOf, matrixOf};
-ghost use Rattle.sheet.specs.Answer.{jobText, sheetAnswer};
-ghost use Rattle.sheet.specs.Steps.{Wrote, Answered};
+ghost use Rattle.sheet.specs.Answer.{jobText, sheetAnswer, Answered};
+ghost use Rattle.sheet.specs.Steps.{Wrote};
 
 // Thins, and writes the answer.
 fn answer_job(
@@ -30,7 +30,8 @@ fn answer_job(
     rule: Rule,
     output: &mut [f64],
 ) -> usize
-    requires { ⌜ (m ≤ 32) × (n ≤ 64) × (length (now matrix) ≡ m * n) × (length (now weights) ≡ m) × (length (now output) ≡ m) × (1342 ≤ length (now out)) ⌝ }
+    requires { ⌜ (m ≤ 32) × (n ≤ 64) × (length (now matrix) ≡ m * n) × (length (now weights) ≡ m) × (length (now output) ≡ m)
+        × (1342 ≤ length (now out)) ⌝ }
     ensures { λ r. ⌜ Wrote (jobText rule seed (now (matrix .entry)) m n (now (weights .entry))) (now (out .entry)) r (now (out .exit)) ⌝ }
 {
     let mut numbers = [0.0f64; 4136];
@@ -52,7 +53,8 @@ fn answer_job(
 // Reads the columns of a sheet of the form, and answers its job.
 fn answer_sheet(out: &mut [u8], text: &[u8], head: Head) -> usize
     requires { ⌜ (head .m ≤ 32) × (head .n ≤ 64) × (head .next ≤ 1000) × (1342 ≤ length (now out)) ⌝ }
-    ensures { λ r. ⌜ Wrote (jobText (head .rule) (head .seed) (matrixOf (now (text .entry)) head) (head .m) (head .n) (weightsOf (now (text .entry)) head)) (now (out .entry)) r (now (out .exit)) ⌝ }
+    ensures { λ r. ⌜ Wrote (jobText (head .rule) (head .seed) (matrixOf (now (text .entry)) head) (head .m) (head .n)
+        (weightsOf (now (text .entry)) head)) (now (out .entry)) r (now (out .exit)) ⌝ }
 {
     let m = head.m;
     let n = head.n;
@@ -82,13 +84,13 @@ fn answer_text(out: &mut [u8], text: &[u8]) -> usize
 {
     let line = wrong_line(text);
     if line != 0 {
-        return put_note(out, b"bad\t", line as u64);
+        return put_note(out, 0, b"bad\t", line as u64);
     }
     answer_sheet(out, text, head_of(text))
 }
 
-// Answers a sheet in a lent buffer, of which 1342 bytes are always enough, and says how long the answer is. Where it does not fit, nothing is
-// written and 0 is said.
+// Answers a sheet in a lent buffer, of which 1342 bytes are always enough, and says how long the answer is. Where it does not fit,
+// nothing is written and 0 is said.
 pub fn thin_sheet(text: &[u8], answer: &mut [u8]) -> usize
     ensures { λ r. ⌜ Answered (now (text .entry)) (now (answer .entry)) r (now (answer .exit)) ⌝ }
 {

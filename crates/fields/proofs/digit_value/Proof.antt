@@ -28,10 +28,14 @@ cast-result-2 : tie.Need-cast-result-2
 cast-result-2 c = search needs
 
 returns-2 : tie.Need-returns-2
-returns-2 c = sym (letter-value (c .before .before .before .before .args .b) (sym (c .before .before .before .is-digit .ensures) ∙ c .before .before .if1 .left) (sym (c .before .is-letter .ensures) ∙ c .if2 .taken))
+returns-2 c = sym (letter-value (c .before .before .before .before .args .b)
+    (sym (c .before .before .before .is-digit .ensures) ∙ c .before .before .if1 .left)
+    (sym (c .before .is-letter .ensures) ∙ c .if2 .taken))
 
 returns-3 : tie.Need-returns-3
-returns-3 c = sym (other-value (c .before .before .before .before .args .b) (sym (c .before .before .before .is-digit .ensures) ∙ c .before .before .if1 .left) (sym (c .before .is-letter .ensures) ∙ c .if2 .left))
+returns-3 c = sym (other-value (c .before .before .before .before .args .b)
+    (sym (c .before .before .before .is-digit .ensures) ∙ c .before .before .if1 .left)
+    (sym (c .before .is-letter .ensures) ∙ c .if2 .left))
 
 pub digit-value-spec : {M : Type 1} → statement M
 digit-value-spec =

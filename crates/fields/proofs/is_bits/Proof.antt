@@ -42,7 +42,16 @@ loop-less c = search needs
 
 loop-again : tie.Need-loop-again Inv-loop μ-loop
 unfolding allTo
-loop-again c = (omega arith, rw (add-one, c .before .before .before .before .loop .inv .1, c .is-letter .ensures, c .before .is-digit .ensures, c .before .before .byte-at .ensures))
+loop-again c = (
+  omega arith,
+  rw (
+    add-one,
+    c .before .before .before .before .loop .inv .1,
+    c .is-letter .ensures,
+    c .before .is-digit .ensures,
+    c .before .before .byte-at .ensures,
+  ),
+)
 
 returns : tie.Need-returns Inv-loop μ-loop
 unfolding isBits

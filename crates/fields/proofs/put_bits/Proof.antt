@@ -1,8 +1,9 @@
 -- `fields::put_bits` meets its contract: the lent part, sixteen bytes, comes back as the digits.
 use native.Mathlib.Nat.{add-sub-cancel-left}
 use Rattle.fields.proofs.Written.{put-digits}
+use Rattle.fields.proofs.Puts.{on-bits}
 use borrow.Author.Needs.{needs}
-use Prim.Native.Nat.{_+_, _-_}
+use Prim.Native.Nat.{ℕ, _+_, _-_}
 use mathlib.Core.Path.{refl}
 use Rattle.fields.proofs.put_bits.Statement.{statement}
 use Rattle.fields.proofs.put_bits.Tie as tie
@@ -27,11 +28,11 @@ same-length c = search needs
 
 returns : tie.Need-returns
 returns c =
-    let s = c .before .before .before .before .before in (
-      refl,
-      put-digits 16 (s .args .x) (s .args .at) 16 (s .args .at + 16 - s .args .at) (s .args .out .now) _ (s .pre)
-          (add-sub-cancel-left (s .args .at) 16) (c .before .before .write-digits .ensures),
-    )
+    let at-start = c .before .before .before .before .before in
+    let at : ℕ = at-start .args .at in
+    on-bits (at-start .args .x) at (at-start .args .out .now) _ _ refl
+    (put-digits 16 (at-start .args .x) at 16 (at + 16 - at) (at-start .args .out .now) _ (at-start .pre) (add-sub-cancel-left at 16)
+    (c .before .before .write-digits .ensures))
 
 pub put-bits-spec : {M : Type 1} → statement M
 put-bits-spec =

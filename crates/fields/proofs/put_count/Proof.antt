@@ -1,8 +1,8 @@
--- `fields::put_count` meets its contract: the lent part is as wide as the number, and twenty bytes hold any.
+-- `fields::put_count` meets its contract: the lent part is as wide as the number.
 use native.Mathlib.Nat.{add-sub-cancel-left}
 use Rattle.fields.specs.Texts.{widthOf}
-use Rattle.fields.proofs.Widths.{width-most}
 use Rattle.fields.proofs.Written.{put-digits}
+use Rattle.fields.proofs.Puts.{on-count}
 use borrow.Author.Needs.{needs}
 use Prim.Native.Nat.{ℕ, _+_, _-_}
 use mathlib.Core.Path.{ap, _∙_}
@@ -14,7 +14,7 @@ width-of-requires : tie.Need-width-of-requires
 width-of-requires c κs = search needs
 
 add-end : tie.Need-add-end
-add-end c = omega (arith, width-most (c .before .before .args .x))
+add-end c = search needs
 
 sub-write-digits : tie.Need-sub-write-digits
 sub-write-digits c = search needs
@@ -23,7 +23,7 @@ part-write-digits-start : tie.Need-part-write-digits-start
 part-write-digits-start c = search needs
 
 part-write-digits-end : tie.Need-part-write-digits-end
-part-write-digits-end c = omega (arith, width-most (c .before .before .args .x))
+part-write-digits-end c = search needs
 
 write-digits-requires : tie.Need-write-digits-requires
 write-digits-requires c κs = search needs
@@ -33,13 +33,15 @@ same-length c = search needs
 
 returns : tie.Need-returns
 returns c =
-    let s = c .before .before .before .before .before .before in
-    let d = c .before .before .write-digits in
-    let wide = c .before .before .before .before .width-of in (
-      ap (λ (n : ℕ). s .args .at + n) (wide .ensures),
-      put-digits 10 (s .args .x) (s .args .at) (widthOf (s .args .x)) (s .args .at + wide .result - s .args .at) (s .args .out .now) _
-          (omega (arith, width-most (s .args .x))) (add-sub-cancel-left (s .args .at) (wide .result) ∙ wide .ensures) (d .ensures),
-    )
+    let at-write-digits = c .before .before in
+    let at-width-of = at-write-digits .before .before in
+    let at-start = at-width-of .before .before in
+    let at : ℕ = at-start .args .at in
+    let x : ℕ = at-start .args .x in
+    let wide = at-width-of .width-of in
+    on-count x at (at-start .args .out .now) _ _ (ap (λ (n : ℕ). at + n) (wide .ensures))
+    (put-digits 10 x at (widthOf x) (at + wide .result - at) (at-start .args .out .now) _ (at-start .pre)
+    (add-sub-cancel-left at (wide .result) ∙ wide .ensures) (at-write-digits .write-digits .ensures))
 
 pub put-count-spec : {M : Type 1} → statement M
 put-count-spec =

@@ -27,11 +27,12 @@ same-length c = search needs
 
 returns : tie.Need-returns
 returns c =
-    let s = c .before .before .before .before .before .before in (
-      refl,
-      put-part (s .args .at) (length (s .args .word .now)) _ (s .args .out .now) _ _
-          (add-sub-cancel-left (s .args .at) _) (c .before .before .copy-bytes .ensures),
-    )
+    let at-start = c .before .before .before .before .before .before in
+    record {
+      ends = refl;
+      puts = put-part (at-start .args .at) (length (at-start .args .word .now)) _ (at-start .args .out .now) _ _
+          (add-sub-cancel-left (at-start .args .at) _) (c .before .before .copy-bytes .ensures);
+    }
 
 pub put-word-spec : {M : Type 1} → statement M
 put-word-spec =

@@ -32,10 +32,12 @@ loop-less : tie.Need-loop-less Inv-loop μ-loop
 loop-less c = search needs
 
 loop-again : tie.Need-loop-again Inv-loop μ-loop
-loop-again c = passing-turn (c .before .before .before .before .loop .inv) (omega arith) (rw (← c .before .before .byte-at .ensures) (sym (c .before .is-digit .ensures) ∙ c .if1 .taken))
+loop-again c = passing-turn (c .before .before .before .before .loop .inv) (omega arith)
+    (rw (← c .before .before .byte-at .ensures) (sym (c .before .is-digit .ensures) ∙ c .if1 .taken))
 
 returns : tie.Need-returns Inv-loop μ-loop
-returns c = passing-left (c .before .before .before .before .loop .inv) (omega arith) (rw (← c .before .before .byte-at .ensures) (sym (c .before .is-digit .ensures) ∙ c .if1 .left))
+returns c = passing-left (c .before .before .before .before .loop .inv) (omega arith)
+    (rw (← c .before .before .byte-at .ensures) (sym (c .before .is-digit .ensures) ∙ c .if1 .left))
 
 returns-2 : tie.Need-returns-2 Inv-loop μ-loop
 returns-2 c = passing-whole (c .before .loop .inv) (omega arith)

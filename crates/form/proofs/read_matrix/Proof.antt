@@ -1,4 +1,5 @@
--- `form::read_matrix` meets its contract: the loop fills the matrix, entry k from column k / n and row k % n; n is not 0 where there is an entry, and every place is small enough.
+-- `form::read_matrix` meets its contract: the loop fills the matrix, entry k from column k / n and row k % n; n is not 0 where there is an entry, and
+-- every place is small enough.
 use Rattle.seq.proofs.Filling.{Filled, start, turn, whole}
 use Rattle.form.specs.Reading.{doubleAt, entryPlace}
 use Rattle.form.proofs.Rooms.{entry-room}

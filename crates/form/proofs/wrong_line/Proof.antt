@@ -19,36 +19,57 @@ add-result : tie.Need-add-result
 add-result c = omega (arith, sized _ _ (c .before .before .before .before .before .head-of .ensures) (not-false _ (c .before .before .before .if1 .left)))
 
 returns-2 : tie.Need-returns-2
-returns-2 c = column-wrong _ _ _ (c .before .before .before .before .before .head-of .ensures) (not-false _ (c .before .before .before .if1 .left)) (c .before .before .columns-from .ensures) (omega arith)
+returns-2 c = column-wrong _ _ _ (c .before .before .before .before .before .head-of .ensures)
+    (not-false _ (c .before .before .before .if1 .left)) (c .before .before .columns-from .ensures) (omega arith)
 
 mul-if3 : tie.Need-mul-if3
-mul-if3 c = omega (arith, sized _ _ (c .before .before .before .before .before .before .head-of .ensures) (not-false _ (c .before .before .before .before .if1 .left)))
+mul-if3 c = omega (
+  arith,
+  sized _ _ (c .before .before .before .before .before .before .head-of .ensures)
+      (not-false _ (c .before .before .before .before .if1 .left)),
+)
 
 add-if3 : tie.Need-add-if3
-add-if3 c = omega (arith, sized _ _ (c .before .before .before .before .before .before .head-of .ensures) (not-false _ (c .before .before .before .before .if1 .left)))
+add-if3 c = omega (
+  arith,
+  sized _ _ (c .before .before .before .before .before .before .head-of .ensures)
+      (not-false _ (c .before .before .before .before .if1 .left)),
+)
 
 mul-if3-2 : tie.Need-mul-if3-2
-mul-if3-2 c = omega (arith, sized _ _ (c .before .before .before .before .before .before .before .head-of .ensures) (not-false _ (c .before .before .before .before .before .if1 .left)))
+mul-if3-2 c = omega (
+  arith,
+  sized _ _ (c .before .before .before .before .before .before .before .head-of .ensures)
+      (not-false _ (c .before .before .before .before .before .if1 .left)),
+)
 
 add-if3-2 : tie.Need-add-if3-2
-add-if3-2 c = omega (arith, sized _ _ (c .before .before .before .before .before .before .before .before .head-of .ensures) (not-false _ (c .before .before .before .before .before .before .if1 .left)))
+add-if3-2 c = omega (
+  arith,
+  sized _ _ (c .before .before .before .before .before .before .before .before .head-of .ensures)
+      (not-false _ (c .before .before .before .before .before .before .if1 .left)),
+)
 
 add-result-2 : tie.Need-add-result-2
-add-result-2 c = omega (arith, sized _ _ (c .before .before .before .before .before .before .before .before .before .before .head-of .ensures) (not-false _ (c .before .before .before .before .before .before .before .before .if1 .left)))
+add-result-2 c = omega (
+  arith,
+  sized _ _ (c .before .before .before .before .before .before .before .before .before .before .head-of .ensures)
+      (not-false _ (c .before .before .before .before .before .before .before .before .if1 .left)),
+)
 
 returns-3 : tie.Need-returns-3
 returns-3 c =
-    let c6 = c .before .before .before .before .before .before in
-    let c7 = c6 .before in
-    let c9 = c7 .before .before in
-    none-wrong _ _ _ (c9 .head-of .ensures) (not-false _ (c7 .if1 .left)) (c6 .columns-from .ensures) (omega arith) (omega arith)
+    let at-columns-from = c .before .before .before .before .before .before in
+    let at-if1 = at-columns-from .before in
+    let at-head-of = at-if1 .before .before in
+    none-wrong _ _ _ (at-head-of .head-of .ensures) (not-false _ (at-if1 .if1 .left)) (at-columns-from .columns-from .ensures) (omega arith) (omega arith)
 
 returns-4 : tie.Need-returns-4
 returns-4 c =
-    let c7 = c .before .before .before .before .before .before .before in
-    let c8 = c7 .before in
-    let c10 = c8 .before .before in
-    end-wrong _ _ _ (c10 .head-of .ensures) (not-false _ (c8 .if1 .left)) (c7 .columns-from .ensures) (omega arith) (λ p. omega arith)
+    let at-columns-from = c .before .before .before .before .before .before .before in
+    let at-if1 = at-columns-from .before in
+    let at-head-of = at-if1 .before .before in
+    end-wrong _ _ _ (at-head-of .head-of .ensures) (not-false _ (at-if1 .if1 .left)) (at-columns-from .columns-from .ensures) (omega arith) (λ p. omega arith)
 
 pub wrong-line-spec : {M : Type 1} → statement M
 wrong-line-spec =

@@ -33,17 +33,22 @@ byte-at-requires-2 : tie.Need-byte-at-requires-2
 byte-at-requires-2 c κs = search needs
 
 add-t13 : tie.Need-add-t13
-add-t13 c = omega (arith, next-sizes _ _ _ (c .before .before .before .before .before .before .before .before .before .before .sizes-at .ensures), next-rule _ _ _ (c .before .before .before .before .before .rule-at .ensures))
+add-t13 c = omega (
+  arith,
+  next-sizes _ _ _ (c .before .before .before .before .before .before .before .before .before .before .sizes-at .ensures),
+  next-rule _ _ _ (c .before .before .before .before .before .rule-at .ensures),
+)
 
 returns : tie.Need-returns
 returns c =
-    let c4 = c .before .before .before .before in
-    let c5 = c4 .before in
-    let c7 = c5 .before .before in
-    let c9 = c7 .before .before in
-    let c10 = c9 .before in
-    let c11 = c10 .before in
-    head-is _ _ _ _ _ _ _ (c11 .spells .ensures) (c10 .sizes-at .ensures) (c9 .bits-at .ensures) (c7 .byte-at .ensures) (c5 .rule-at .ensures) (c4 .byte-at2 .ensures)
+    let at-byte-at2 = c .before .before .before .before in
+    let at-rule-at = at-byte-at2 .before in
+    let at-byte-at = at-rule-at .before .before in
+    let at-bits-at = at-byte-at .before .before in
+    let at-sizes-at = at-bits-at .before in
+    let at-spells = at-sizes-at .before in
+    head-is _ _ _ _ _ _ _ (at-spells .spells .ensures) (at-sizes-at .sizes-at .ensures) (at-bits-at .bits-at .ensures)
+    (at-byte-at .byte-at .ensures) (at-rule-at .rule-at .ensures) (at-byte-at2 .byte-at2 .ensures)
 
 pub head-of-spec : {M : Type 1} → statement M
 head-of-spec =

@@ -32,10 +32,13 @@ within-at-requires : tie.Need-within-at-requires
 within-at-requires c κs = search needs
 
 returns-2 : tie.Need-returns-2
-returns-2 c = rule-within _ _ _ _ _ (c .before .before .before .before .before .spells .ensures) (c .before .before .before .before .if1 .left) (c .before .before .spells2 .ensures) (c .before .if2 .taken) (c .within-at .ensures)
+returns-2 c = rule-within _ _ _ _ _ (c .before .before .before .before .before .spells .ensures)
+    (c .before .before .before .before .if1 .left) (c .before .before .spells2 .ensures) (c .before .if2 .taken)
+    (c .within-at .ensures)
 
 returns-3 : tie.Need-returns-3
-returns-3 c = rule-none _ _ _ _ (c .before .before .before .before .spells .ensures) (c .before .before .before .if1 .left) (c .before .spells2 .ensures) (c .if2 .left)
+returns-3 c = rule-none _ _ _ _ (c .before .before .before .before .spells .ensures) (c .before .before .before .if1 .left)
+    (c .before .spells2 .ensures) (c .if2 .left)
 
 pub rule-at-spec : {M : Type 1} → statement M
 rule-at-spec =

@@ -21,15 +21,19 @@ byte-at-requires-2 : tie.Need-byte-at-requires-2
 byte-at-requires-2 c κs = search needs
 
 add-t17 : tie.Need-add-t17
-add-t17 c = omega (arith, next-count _ _ _ (c .before .before .before .before .before .before .count-at2 .ensures), next-count _ _ _ (c .before .before .before .before .before .before .before .before .before .count-at .ensures))
+add-t17 c = omega (
+  arith,
+  next-count _ _ _ (c .before .before .before .before .before .before .count-at2 .ensures),
+  next-count _ _ _ (c .before .before .before .before .before .before .before .before .before .count-at .ensures),
+)
 
 returns : tie.Need-returns
 returns c =
-    let c5 = c .before .before .before .before .before in
-    let c6 = c5 .before in
-    let c8 = c6 .before .before in
-    let c9 = c8 .before in
-    sizes-is _ _ _ _ _ _ (c9 .count-at .ensures) (c8 .byte-at .ensures) (c6 .count-at2 .ensures) (c5 .byte-at2 .ensures)
+    let at-byte-at2 = c .before .before .before .before .before in
+    let at-count-at2 = at-byte-at2 .before in
+    let at-byte-at = at-count-at2 .before .before in
+    let at-count-at = at-byte-at .before in
+    sizes-is _ _ _ _ _ _ (at-count-at .count-at .ensures) (at-byte-at .byte-at .ensures) (at-count-at2 .count-at2 .ensures) (at-byte-at2 .byte-at2 .ensures)
 
 pub sizes-at-spec : {M : Type 1} → statement M
 sizes-at-spec =

@@ -23,7 +23,9 @@ double-requires : tie.Need-double-requires
 double-requires c κs = search needs
 
 returns : tie.Need-returns
-returns c = within-is _ _ _ _ _ _ (c .before .before .before .before .before .bits-at .ensures) (c .before .before .before .before .byte-at .ensures) (c .before .before .before .cap-at .ensures) (c .before .before .double .ensures)
+returns c = within-is _ _ _ _ _ _ (c .before .before .before .before .before .bits-at .ensures)
+    (c .before .before .before .before .byte-at .ensures) (c .before .before .before .cap-at .ensures)
+    (c .before .before .double .ensures)
 
 pub within-at-spec : {M : Type 1} → statement M
 within-at-spec =

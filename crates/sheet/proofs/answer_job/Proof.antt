@@ -18,9 +18,9 @@ thin-requires c κs = search needs
 
 put-answer-requires : tie.Need-put-answer-requires
 put-answer-requires c κs =
-    let c6 = c .before .before .before .before .before .before in
-    let c14 = c6 .before .before .before .before .before .before .before .before in
-    omega (arith, c14 .pre .0, c14 .pre .4, c14 .pre .5, c6 .thin .kept .1 .1 .1 .1 .1 .0)
+    let at-thin = c .before .before .before .before .before .before in
+    let at-start = at-thin .before .before .before .before .before .before .before .before in
+    omega (arith, at-start .pre .0, at-start .pre .4, at-start .pre .5, at-thin .thin .kept .1 .1 .1 .1 .1 .0)
 
 same-length : tie.Need-same-length
 same-length c = search needs
@@ -30,10 +30,11 @@ same-length-2 c = search needs
 
 returns : tie.Need-returns
 returns c =
-    let c2 = c .before .before in
-    let c9 = c2 .before .before .before .before .before .before .before in
-    let c17 = c9 .before .before .before .before .before .before .before .before in
-    job-wrote _ _ _ (c17 .pre .0) (c17 .pre .1) (c17 .pre .2) (c17 .pre .3) (c17 .pre .4) refl refl (c9 .thin .ensures) (c2 .put-answer .ensures)
+    let at-put-answer = c .before .before in
+    let at-thin = at-put-answer .before .before .before .before .before .before .before in
+    let at-start = at-thin .before .before .before .before .before .before .before .before in
+    job-wrote _ _ _ (at-start .pre .0) (at-start .pre .1) (at-start .pre .2) (at-start .pre .3) (at-start .pre .4) refl refl
+    (at-thin .thin .ensures) (at-put-answer .put-answer .ensures)
 
 pub answer-job-spec : {M : Type 1} → statement M
 answer-job-spec =

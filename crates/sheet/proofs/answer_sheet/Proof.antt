@@ -20,8 +20,12 @@ slice-aggregate-read-matrix c = sym (length-take-le _ _ (omega (arith, few _ _ (
 
 read-matrix-requires : tie.Need-read-matrix-requires
 read-matrix-requires c κs =
-    let c3 = c .before .before .before in
-    (c3 .pre .2, c3 .pre .1, front-most _ _ _ (omega (arith, few _ _ (c3 .pre .0) (c3 .pre .1))) (mul-le-mul-right (c3 .args .head .n) (c3 .pre .0)))
+    let at-start = c .before .before .before in (
+      at-start .pre .2,
+      at-start .pre .1,
+      front-most _ _ _ (omega (arith, few _ _ (at-start .pre .0) (at-start .pre .1)))
+          (mul-le-mul-right (at-start .args .head .n) (at-start .pre .0)),
+    )
 
 array-borrow-prefix-weights : tie.Need-array-borrow-prefix-weights
 array-borrow-prefix-weights c = omega (arith, c .before .before .before .before .before .pre .0)
@@ -31,58 +35,68 @@ slice-aggregate-read-weights c = sym (length-take-le _ _ (omega (arith, c .befor
 
 read-weights-requires : tie.Need-read-weights-requires
 read-weights-requires c κs =
-    let c6 = c .before .before .before .before .before .before in
-    (c6 .pre .2, c6 .pre .1, front-most _ _ _ (omega (arith, c6 .pre .0)) (c6 .pre .0))
+    let at-start = c .before .before .before .before .before .before in
+    (at-start .pre .2, at-start .pre .1, front-most _ _ _ (omega (arith, at-start .pre .0)) (at-start .pre .0))
 
 array-share-prefix-matrix : tie.Need-array-share-prefix-matrix
 array-share-prefix-matrix c =
-    let c5 = c .before .before .before .before .before in
-    let c9 = c5 .before .before .before .before in
-    front-there _ (c5 .read-matrix .last .0) _ (c5 .read-matrix .kept .0) (omega (arith, few _ _ (c9 .pre .0) (c9 .pre .1)))
+    let at-read-matrix = c .before .before .before .before .before in
+    let at-start = at-read-matrix .before .before .before .before in
+    front-there _ (at-read-matrix .read-matrix .last .0) _ (at-read-matrix .read-matrix .kept .0) (omega (arith, few _ _ (at-start .pre .0) (at-start .pre .1)))
 
 slice-aggregate-answer-job : tie.Need-slice-aggregate-answer-job
 slice-aggregate-answer-job c =
-    let c6 = c .before .before .before .before .before .before in
-    let c10 = c6 .before .before .before .before in
-    front-whole _ (c6 .read-matrix .last .0) _ (c6 .read-matrix .kept .0) (omega (arith, few _ _ (c10 .pre .0) (c10 .pre .1)))
+    let at-read-matrix = c .before .before .before .before .before .before in
+    let at-start = at-read-matrix .before .before .before .before in
+    front-whole _ (at-read-matrix .read-matrix .last .0) _ (at-read-matrix .read-matrix .kept .0) (omega (arith, few _ _ (at-start .pre .0) (at-start .pre .1)))
 
 array-share-prefix-weights : tie.Need-array-share-prefix-weights
 array-share-prefix-weights c =
-    let c3 = c .before .before .before in
-    let c10 = c3 .before .before .before .before .before .before .before in
-    front-there _ (c3 .read-weights .last .0) _ (c3 .read-weights .kept .0) (omega (arith, c10 .pre .0))
+    let at-read-weights = c .before .before .before in
+    let at-start = at-read-weights .before .before .before .before .before .before .before in
+    front-there _ (at-read-weights .read-weights .last .0) _ (at-read-weights .read-weights .kept .0) (omega (arith, at-start .pre .0))
 
 slice-aggregate-answer-job-2 : tie.Need-slice-aggregate-answer-job-2
 slice-aggregate-answer-job-2 c =
-    let c4 = c .before .before .before .before in
-    let c11 = c4 .before .before .before .before .before .before .before in
-    front-whole _ (c4 .read-weights .last .0) _ (c4 .read-weights .kept .0) (omega (arith, c11 .pre .0))
+    let at-read-weights = c .before .before .before .before in
+    let at-start = at-read-weights .before .before .before .before .before .before .before in
+    front-whole _ (at-read-weights .read-weights .last .0) _ (at-read-weights .read-weights .kept .0) (omega (arith, at-start .pre .0))
 
 array-borrow-prefix-output : tie.Need-array-borrow-prefix-output
 array-borrow-prefix-output c = omega (arith, c .before .before .before .before .before .before .before .before .before .before .before .pre .0)
 
 slice-aggregate-answer-job-3 : tie.Need-slice-aggregate-answer-job-3
-slice-aggregate-answer-job-3 c = sym (length-take-le _ _ (omega (arith, c .before .before .before .before .before .before .before .before .before .before .before .before .pre .0)))
+slice-aggregate-answer-job-3 c = sym (length-take-le _ _
+    (omega (arith, c .before .before .before .before .before .before .before .before .before .before .before .before .pre .0)))
 
 answer-job-requires : tie.Need-answer-job-requires
 answer-job-requires c κs =
-    let c5 = c .before .before .before .before .before in
-    let c5 = c5 in
-    let c8 = c5 .before .before .before in
-    let c12 = c8 .before .before .before .before in
-    (c12 .pre .0, c12 .pre .1, sym (front-whole _ (c8 .read-matrix .last .0) _ (c8 .read-matrix .kept .0) (omega (arith, few _ _ (c12 .pre .0) (c12 .pre .1)))), sym (front-whole _ (c5 .read-weights .last .0) _ (c5 .read-weights .kept .0) (omega (arith, c12 .pre .0))), length-take-le _ _ (omega (arith, c12 .pre .0)), c12 .pre .3)
+    let at-read-weights = c .before .before .before .before .before in
+    let at-read-matrix = at-read-weights .before .before .before in
+    let at-start = at-read-matrix .before .before .before .before in (
+      at-start .pre .0,
+      at-start .pre .1,
+      sym (front-whole _ (at-read-matrix .read-matrix .last .0) _ (at-read-matrix .read-matrix .kept .0)
+          (omega (arith, few _ _ (at-start .pre .0) (at-start .pre .1)))),
+      sym (front-whole _ (at-read-weights .read-weights .last .0) _ (at-read-weights .read-weights .kept .0)
+          (omega (arith, at-start .pre .0))),
+      length-take-le _ _ (omega (arith, at-start .pre .0)),
+      at-start .pre .3,
+    )
 
 same-length : tie.Need-same-length
 same-length c = search needs
 
 returns : tie.Need-returns
 returns c =
-    let c3 = c .before .before .before in
-    let c3 = c3 in
-    let c9 = c3 .before .before .before .before .before .before in
-    let c12 = c9 .before .before .before in
-    let c16 = c12 .before .before .before .before in
-    job-read (c16 .args .text .now) (c16 .args .head) _ _ _ _ _ (front-read _ _ _ _ (c12 .read-matrix .ensures) (omega (arith, few _ _ (c16 .pre .0) (c16 .pre .1)))) (front-read _ _ _ _ (c9 .read-weights .ensures) (omega (arith, c16 .pre .0))) (c3 .answer-job .ensures)
+    let at-answer-job = c .before .before .before in
+    let at-read-weights = at-answer-job .before .before .before .before .before .before in
+    let at-read-matrix = at-read-weights .before .before .before in
+    let at-start = at-read-matrix .before .before .before .before in
+    job-read (at-start .args .text .now) (at-start .args .head) _ _ _ _ _
+    (front-read _ _ _ _ (at-read-matrix .read-matrix .ensures) (omega (arith, few _ _ (at-start .pre .0) (at-start .pre .1))))
+    (front-read _ _ _ _ (at-read-weights .read-weights .ensures) (omega (arith, at-start .pre .0)))
+    (at-answer-job .answer-job .ensures)
 
 pub answer-sheet-spec : {M : Type 1} → statement M
 answer-sheet-spec =

@@ -15,9 +15,10 @@ answer-text-requires c κs = search needs
 
 returns : tie.Need-returns
 returns c =
-    let c2 = c .before .before in
-    let c6 = c2 .before .before .before .before in
-    does-not-fit (c6 .args .text .now) (c6 .args .answer .now) _ (c2 .answer-text .result) (c2 .answer-text .last .0) (c2 .answer-text .ensures) (c .if1 .taken)
+    let at-answer-text = c .before .before in
+    let at-start = at-answer-text .before .before .before .before in
+    does-not-fit (at-start .args .text .now) (at-start .args .answer .now) _ (at-answer-text .answer-text .result)
+    (at-answer-text .answer-text .last .0) (at-answer-text .answer-text .ensures) (c .if1 .taken)
 
 slice-relend-prefix-copy-bytes : tie.Need-slice-relend-prefix-copy-bytes
 slice-relend-prefix-copy-bytes c = search needs
@@ -32,18 +33,21 @@ slice-aggregate-copy-bytes-2 : tie.Need-slice-aggregate-copy-bytes-2
 slice-aggregate-copy-bytes-2 c = sym (length-take-le _ _ (wrote-room _ _ _ _ (c .before .before .before .before .answer-text .ensures)))
 
 copy-bytes-requires : tie.Need-copy-bytes-requires
-copy-bytes-requires c κs = length-take-le _ _ (c .before .before .if1 .left) ∙ sym (length-take-le _ _ (wrote-room _ _ _ _ (c .before .before .before .before .answer-text .ensures)))
+copy-bytes-requires c κs = length-take-le _ _ (c .before .before .if1 .left) ∙ sym
+    (length-take-le _ _ (wrote-room _ _ _ _ (c .before .before .before .before .answer-text .ensures)))
 
 same-length : tie.Need-same-length
 same-length c = search needs
 
 returns-2 : tie.Need-returns-2
 returns-2 c =
-    let c2 = c .before .before in
-    let c5 = c2 .before .before .before in
-    let c7 = c5 .before .before in
-    let c11 = c7 .before .before .before .before in
-    does-fit (c11 .args .text .now) (c11 .args .answer .now) _ (c7 .answer-text .result) (c7 .answer-text .last .0) (c2 .copy-bytes .last .0) _ (c7 .answer-text .ensures) (c5 .if1 .left) (c2 .copy-bytes .ensures) refl
+    let at-copy-bytes = c .before .before in
+    let at-if1 = at-copy-bytes .before .before .before in
+    let at-answer-text = at-if1 .before .before in
+    let at-start = at-answer-text .before .before .before .before in
+    does-fit (at-start .args .text .now) (at-start .args .answer .now) _ (at-answer-text .answer-text .result)
+    (at-answer-text .answer-text .last .0) (at-copy-bytes .copy-bytes .last .0) _ (at-answer-text .answer-text .ensures)
+    (at-if1 .if1 .left) (at-copy-bytes .copy-bytes .ensures) refl
 
 pub thin-sheet-spec : {M : Type 1} → statement M
 thin-sheet-spec =

@@ -20,7 +20,8 @@ array-share-prefix-answer : tie.Need-array-share-prefix-answer
 array-share-prefix-answer c = stays-within _ _ _ _ (c .before .before .thin-sheet .ensures) (c .before .before .thin-sheet .kept .1 .0)
 
 slice-aggregate-write-all : tie.Need-slice-aggregate-write-all
-slice-aggregate-write-all c = sym (length-take-le _ _ (stays-within _ _ _ _ (c .before .before .before .thin-sheet .ensures) (c .before .before .before .thin-sheet .kept .1 .0)))
+slice-aggregate-write-all c = sym (length-take-le _ _ (stays-within _ _ _ _ (c .before .before .before .thin-sheet .ensures)
+    (c .before .before .before .thin-sheet .kept .1 .0)))
 
 write-all-requires-2 : tie.Need-write-all-requires-2
 write-all-requires-2 c κs = search needs

@@ -1,5 +1,6 @@
 -- `sheet::answer::put_answer` meets its contract: a note for a refusal, and else the first line and the weights'.
 use Rattle.sheet.proofs.Lines.{length-ok, answer-refused, answer-accepted}
+use Rattle.fields.proofs.Widths.{width-most}
 use borrow.Author.Needs.{needs}
 use Prim.Native.Nat.{_-_}
 use native.Mathlib.Omega.{arith}
@@ -10,38 +11,41 @@ slice-aggregate-put-note : tie.Need-slice-aggregate-put-note
 slice-aggregate-put-note c = search needs
 
 put-note-requires : tie.Need-put-note-requires
-put-note-requires c κs = search needs
+put-note-requires c κs = omega (arith, width-most (c .before .before .before .before .before .before .args .r .number))
 
 same-length : tie.Need-same-length
 same-length c = search needs
 
 returns : tie.Need-returns
 returns c =
-    let c2 = c .before .before in
-    let c5 = c2 .before .before .before in
-    let c9 = c5 .before .before .before .before in
-    answer-refused (c9 .args .r) (c9 .args .w .now) (c9 .args .out .now) (c2 .put-note .result) (c2 .put-note .last .0) (c5 .if1 .taken) (c2 .put-note .ensures)
+    let at-put-note = c .before .before in
+    let at-if1 = at-put-note .before .before .before in
+    let at-start = at-if1 .before .before .before .before in
+    answer-refused (at-start .args .r) (at-start .args .w .now) (at-start .args .out .now) (at-put-note .put-note .result)
+    (at-put-note .put-note .last .0) (at-if1 .if1 .taken) (omega (arith, at-start .pre)) (at-put-note .put-note .ensures)
 
 put-ok-requires : tie.Need-put-ok-requires
 put-ok-requires c κs = search needs
 
 put-weights-requires : tie.Need-put-weights-requires
 put-weights-requires c κs =
-    let c3 = c .before .before .before in
-    let c9 = c3 .before .before .before .before .before .before in
-    omega (arith, length-ok (c9 .args .r), c3 .put-ok .ensures .long, c3 .put-ok .kept .0, c9 .pre)
+    let at-put-ok = c .before .before .before in
+    let at-start = at-put-ok .before .before .before .before .before .before in
+    omega (arith, length-ok (at-start .args .r), at-put-ok .put-ok .ensures .long, at-put-ok .put-ok .kept .0, at-start .pre)
 
 same-length-2 : tie.Need-same-length-2
 same-length-2 c = search needs
 
 returns-2 : tie.Need-returns-2
 returns-2 c =
-    let c2 = c .before .before in
-    let c2 = c2 in
-    let c6 = c2 .before .before .before .before in
-    let c8 = c6 .before .before in
-    let c12 = c8 .before .before .before .before in
-    answer-accepted (c12 .args .r) (c12 .args .w .now) (c12 .args .out .now) (c6 .put-ok .result) (c6 .put-ok .last .0) (c2 .put-weights .result) (c2 .put-weights .last .0) (c8 .if1 .left) (c12 .pre) (omega (arith, length-ok (c12 .args .r), c6 .put-ok .ensures .long)) (c6 .put-ok .ensures) (c2 .put-weights .ensures)
+    let at-put-weights = c .before .before in
+    let at-put-ok = at-put-weights .before .before .before .before in
+    let at-if1 = at-put-ok .before .before in
+    let at-start = at-if1 .before .before .before .before in
+    answer-accepted (at-start .args .r) (at-start .args .w .now) (at-start .args .out .now) (at-put-ok .put-ok .result)
+    (at-put-ok .put-ok .last .0) (at-put-weights .put-weights .result) (at-put-weights .put-weights .last .0)
+    (at-if1 .if1 .left) (at-start .pre) (omega (arith, length-ok (at-start .args .r), at-put-ok .put-ok .ensures .long))
+    (at-put-ok .put-ok .ensures) (at-put-weights .put-weights .ensures)
 
 pub put-answer-spec : {M : Type 1} → statement M
 put-answer-spec =

@@ -1,6 +1,8 @@
 -- `sheet::answer::put_last` meets its contract: two pieces side by side.
 use Rattle.sheet.proofs.Lines.{last-wrote}
+use Rattle.fields.proofs.Widths.{length-bits}
 use borrow.Author.Needs.{needs}
+use native.Mathlib.Omega.{arith}
 use Prim.Native.Nat.{_-_}
 use Rattle.sheet.proofs.answer.put_last.Statement.{statement}
 use Rattle.sheet.proofs.answer.put_last.Tie as tie
@@ -15,19 +17,21 @@ slice-aggregate-put-word : tie.Need-slice-aggregate-put-word
 slice-aggregate-put-word c = search needs
 
 put-word-requires : tie.Need-put-word-requires
-put-word-requires c κs = search needs
+put-word-requires c κs =
+    let at-put-bits = c .before .before .before .before in
+    omega (arith, length-bits (at-put-bits .before .pattern .result), at-put-bits .put-bits .ensures .ends)
 
 same-length : tie.Need-same-length
 same-length c = search needs
 
 returns : tie.Need-returns
 returns c =
-    let c2 = c .before .before in
-    let c2 = c2 in
-    let c7 = c2 .before .before .before .before .before in
-    let c8 = c7 .before in
-    let c11 = c8 .before .before .before in
-    last-wrote (c11 .args .x) (c8 .pattern .result) (c11 .args .at) (c11 .args .out .now) (c7 .put-bits .result) (c7 .put-bits .last .0) (c2 .put-word .result) (c2 .put-word .last .0) (c11 .pre) (c8 .pattern .ensures) (c7 .put-bits .ensures) (c2 .put-word .ensures)
+    let at-put-word = c .before .before in
+    let at-put-bits = at-put-word .before .before .before .before .before in
+    let at-pattern = at-put-bits .before in
+    let at-start = at-pattern .before .before .before in
+    last-wrote (at-start .args .x) (at-pattern .pattern .result) (at-start .pre) (at-pattern .pattern .ensures)
+    (at-put-bits .put-bits .ensures) (at-put-word .put-word .ensures)
 
 pub put-last-spec : {M : Type 1} → statement M
 put-last-spec =

@@ -1,5 +1,7 @@
 -- `sheet::answer::put_ok` meets its contract: four pieces, one after the other from the front.
-use Rattle.sheet.proofs.Lines.{length-tabbed, ok-wrote}
+use Rattle.sheet.proofs.Lines.{ok-wrote}
+use Rattle.fields.proofs.Widths.{width-most}
+use Rattle.fields.proofs.Puts.{length-tabbed}
 use borrow.Author.Needs.{needs}
 use Prim.Native.Nat.{_-_}
 use mathlib.Core.Path.{_∙_}
@@ -14,36 +16,62 @@ put-word-requires : tie.Need-put-word-requires
 put-word-requires c κs = search needs
 
 put-tabbed-requires : tie.Need-put-tabbed-requires
-put-tabbed-requires c κs = search needs
+put-tabbed-requires c κs =
+    let at-put-word = c .before .before .before in
+    let at-start = at-put-word .before .before .before .before in
+    omega (arith, width-most (at-start .args .r .stage), at-put-word .put-word .ensures .ends)
 
 put-tabbed-requires-2 : tie.Need-put-tabbed-requires-2
 put-tabbed-requires-2 c κs =
-    let c3 = c .before .before .before in
-    let c7 = c3 .before .before .before .before in
-    let c11 = c7 .before .before .before .before in
-    omega (arith, length-tabbed (c11 .args .r .stage), c7 .put-word .ensures .0, c3 .put-tabbed .ensures .ends)
+    let at-put-tabbed = c .before .before .before in
+    let at-put-word = at-put-tabbed .before .before .before .before in
+    let at-start = at-put-word .before .before .before .before in
+    omega (
+      arith,
+      length-tabbed (at-start .args .r .stage),
+      width-most (at-start .args .r .stage),
+      width-most (at-start .args .r .nonzeros),
+      at-put-word .put-word .ensures .ends,
+      at-put-tabbed .put-tabbed .ensures .ends,
+    )
 
 put-last-requires : tie.Need-put-last-requires
 put-last-requires c κs =
-    let c3 = c .before .before .before in
-    let c3 = c3 in
-    let c7 = c3 .before .before .before .before in
-    let c11 = c7 .before .before .before .before in
-    let c15 = c11 .before .before .before .before in
-    omega (arith, length-tabbed (c15 .args .r .stage), length-tabbed (c15 .args .r .nonzeros), c11 .put-word .ensures .0, c7 .put-tabbed .ensures .ends, c3 .put-tabbed2 .ensures .ends, c11 .put-word .kept .0, c7 .put-tabbed .kept .0, c3 .put-tabbed2 .kept .0, c15 .pre)
+    let at-put-tabbed2 = c .before .before .before in
+    let at-put-tabbed = at-put-tabbed2 .before .before .before .before in
+    let at-put-word = at-put-tabbed .before .before .before .before in
+    let at-start = at-put-word .before .before .before .before in
+    omega (
+      arith,
+      length-tabbed (at-start .args .r .stage),
+      width-most (at-start .args .r .stage),
+      length-tabbed (at-start .args .r .nonzeros),
+      width-most (at-start .args .r .nonzeros),
+      at-put-word .put-word .ensures .ends,
+      at-put-tabbed .put-tabbed .ensures .ends,
+      at-put-tabbed2 .put-tabbed2 .ensures .ends,
+      at-put-word .put-word .kept .0,
+      at-put-tabbed .put-tabbed .kept .0,
+      at-put-tabbed2 .put-tabbed2 .kept .0,
+      at-start .pre,
+    )
 
 same-length : tie.Need-same-length
 same-length c = search needs
 
 returns : tie.Need-returns
 returns c =
-    let c2 = c .before .before in
-    let c2 = c2 in
-    let c6 = c2 .before .before .before .before in
-    let c10 = c6 .before .before .before .before in
-    let c14 = c10 .before .before .before .before in
-    let c18 = c14 .before .before .before .before in
-    ok-wrote (c18 .args .r) (c18 .args .out .now) (c14 .put-word .result) (c14 .put-word .last .0) (c10 .put-tabbed .result) (c10 .put-tabbed .last .0) (c6 .put-tabbed2 .result) (c6 .put-tabbed2 .last .0) (c2 .put-last .result) (c2 .put-last .last .0) (c18 .pre) (c14 .put-word .kept .0) (c10 .put-tabbed .kept .0 ∙ c14 .put-word .kept .0) (c14 .put-word .ensures) (c10 .put-tabbed .ensures) (c6 .put-tabbed2 .ensures) (c2 .put-last .ensures)
+    let at-put-last = c .before .before in
+    let at-put-tabbed2 = at-put-last .before .before .before .before in
+    let at-put-tabbed = at-put-tabbed2 .before .before .before .before in
+    let at-put-word = at-put-tabbed .before .before .before .before in
+    let at-start = at-put-word .before .before .before .before in
+    ok-wrote (at-start .args .r) (at-start .args .out .now) (at-put-word .put-word .result) (at-put-word .put-word .last .0)
+    (at-put-tabbed .put-tabbed .result) (at-put-tabbed .put-tabbed .last .0) (at-put-tabbed2 .put-tabbed2 .result)
+    (at-put-tabbed2 .put-tabbed2 .last .0) (at-put-last .put-last .result) (at-put-last .put-last .last .0) (at-start .pre)
+    (at-put-word .put-word .kept .0) (at-put-tabbed .put-tabbed .kept .0 ∙ at-put-word .put-word .kept .0)
+    (at-put-word .put-word .ensures) (at-put-tabbed .put-tabbed .ensures) (at-put-tabbed2 .put-tabbed2 .ensures)
+    (at-put-last .put-last .ensures)
 
 pub put-ok-spec : {M : Type 1} → statement M
 put-ok-spec =

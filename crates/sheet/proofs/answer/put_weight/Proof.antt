@@ -1,5 +1,7 @@
 -- `sheet::answer::put_weight` meets its contract: three pieces side by side.
-use Rattle.sheet.proofs.Lines.{length-tabbed, weight-wrote}
+use Rattle.sheet.proofs.Lines.{weight-wrote}
+use Rattle.fields.proofs.Widths.{width-most}
+use Rattle.fields.proofs.Puts.{length-tabbed}
 use borrow.Author.Needs.{needs}
 use Prim.Native.Nat.{_-_}
 use native.Mathlib.Omega.{arith}
@@ -13,26 +15,41 @@ put-word-requires : tie.Need-put-word-requires
 put-word-requires c κs = search needs
 
 put-tabbed-requires : tie.Need-put-tabbed-requires
-put-tabbed-requires c κs = search needs
+put-tabbed-requires c κs =
+    let at-put-word = c .before .before .before in
+    let at-start = at-put-word .before .before .before .before in
+    omega (arith, width-most (at-start .args .j), at-put-word .put-word .ensures .ends)
 
 put-last-requires : tie.Need-put-last-requires
 put-last-requires c κs =
-    let c3 = c .before .before .before in
-    let c7 = c3 .before .before .before .before in
-    let c11 = c7 .before .before .before .before in
-    omega (arith, length-tabbed (c11 .args .j), c7 .put-word .ensures .0, c3 .put-tabbed .ensures .ends, c7 .put-word .kept .0, c3 .put-tabbed .kept .0, c11 .pre)
+    let at-put-tabbed = c .before .before .before in
+    let at-put-word = at-put-tabbed .before .before .before .before in
+    let at-start = at-put-word .before .before .before .before in
+    omega (
+      arith,
+      length-tabbed (at-start .args .j),
+      width-most (at-start .args .j),
+      at-put-word .put-word .ensures .ends,
+      at-put-tabbed .put-tabbed .ensures .ends,
+      at-put-word .put-word .kept .0,
+      at-put-tabbed .put-tabbed .kept .0,
+      at-start .pre,
+    )
 
 same-length : tie.Need-same-length
 same-length c = search needs
 
 returns : tie.Need-returns
 returns c =
-    let c2 = c .before .before in
-    let c2 = c2 in
-    let c6 = c2 .before .before .before .before in
-    let c10 = c6 .before .before .before .before in
-    let c14 = c10 .before .before .before .before in
-    weight-wrote (c14 .args .j) (c14 .args .w) (c14 .args .at) (c14 .args .out .now) (c10 .put-word .result) (c10 .put-word .last .0) (c6 .put-tabbed .result) (c6 .put-tabbed .last .0) (c2 .put-last .result) (c2 .put-last .last .0) (c14 .pre) (c10 .put-word .kept .0) (c10 .put-word .ensures) (c6 .put-tabbed .ensures) (c2 .put-last .ensures)
+    let at-put-last = c .before .before in
+    let at-put-tabbed = at-put-last .before .before .before .before in
+    let at-put-word = at-put-tabbed .before .before .before .before in
+    let at-start = at-put-word .before .before .before .before in
+    weight-wrote (at-start .args .j) (at-start .args .w) (at-start .args .at) (at-start .args .out .now)
+    (at-put-word .put-word .result) (at-put-word .put-word .last .0) (at-put-tabbed .put-tabbed .result)
+    (at-put-tabbed .put-tabbed .last .0) (at-put-last .put-last .result) (at-put-last .put-last .last .0) (at-start .pre)
+    (at-put-word .put-word .kept .0) (at-put-word .put-word .ensures) (at-put-tabbed .put-tabbed .ensures)
+    (at-put-last .put-last .ensures)
 
 pub put-weight-spec : {M : Type 1} → statement M
 put-weight-spec =

@@ -23,7 +23,13 @@ shared-slice-read-put-weight : tie.Need-shared-slice-read-put-weight Inv-loop μ
 shared-slice-read-put-weight c = search needs
 
 put-weight-requires : tie.Need-put-weight-requires Inv-loop μ-loop
-put-weight-requires c κs = omega (arith, c .before .before .before .loop .inv .near, c .before .before .before .loop .inv .same, c .before .before .loop-test .taken, c .before .before .before .before .before .before .pre)
+put-weight-requires c κs = omega (
+  arith,
+  c .before .before .before .loop .inv .near,
+  c .before .before .before .loop .inv .same,
+  c .before .before .loop-test .taken,
+  c .before .before .before .before .before .before .pre,
+)
 
 add-j : tie.Need-add-j Inv-loop μ-loop
 add-j c = search needs
@@ -33,11 +39,13 @@ loop-less c = search needs
 
 loop-again : tie.Need-loop-again Inv-loop μ-loop
 loop-again c =
-    let c2 = c .before .before in
-    let c5 = c2 .before .before .before in
-    let c6 = c5 .before in
-    let c9 = c6 .before .before .before in
-    lining-turn (c2 .put-weight .result) (c2 .put-weight .last .0) (c6 .loop .inv) (omega (arith, c5 .loop-test .taken)) (c9 .pre) (c2 .put-weight .kept .0) (c2 .put-weight .ensures)
+    let at-put-weight = c .before .before in
+    let at-loop-test = at-put-weight .before .before .before in
+    let at-loop = at-loop-test .before in
+    let at-start = at-loop .before .before .before in
+    lining-turn (at-put-weight .put-weight .result) (at-put-weight .put-weight .last .0) (at-loop .loop .inv)
+    (omega (arith, at-loop-test .loop-test .taken)) (at-start .pre) (at-put-weight .put-weight .kept .0)
+    (at-put-weight .put-weight .ensures)
 
 same-length : tie.Need-same-length Inv-loop μ-loop
 same-length c = c .before .loop .inv .same
