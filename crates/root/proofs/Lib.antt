@@ -1,9 +1,9 @@
--- The laws of the root, in the order in which they build on each other; the last, `RootResults`, is for the crates above.
+-- The laws of the root, in the order in which they build on each other. The last says that the root is right for every double.
 pub mod RootFloor
 pub mod RootRounding
 pub mod RootPattern
 pub mod RootDigits
 pub mod RootGuess
 pub mod RootCases
-pub mod RootNearest
 pub mod RootResults
+pub mod RootNearest

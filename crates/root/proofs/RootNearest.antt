@@ -1,28 +1,39 @@
--- Every other finite value of binary64 is farther from the root than the defined one, so there is never a tie. In units of 2 ^ -1074 a finite value is m * 2 ^ j with m below 2 ^ 53, and the root of X units is √(X * 2 ^ 1074).
--- A value of Y units is farther from it than one of z units: for Y below z, the mean of the two is below the root, and for Y above z above it; here with both sides doubled and squared.
-use Prim.Native.Nat.{ℕ, suc, _+_, _-_, _*_, _/_, _%_, _^_, _≤_, _<_}
-use native.Mathlib.Nat.{lt-of-not-le, not-le-of-lt, zero-lt-suc, mul-one, le-of-eq, lt-of-lt-of-le, lt-of-le-of-lt, mul-assoc, mul-mul-mul-comm, mul-pos, mul-le-mul, mul-le-mul-right, mul-lt-mul-of-pos-right, lt-of-mul-lt-mul-right, pow-succ'}
+-- The root is right for every double. Of a finite x above zero every other double is farther from the root than the defined one, so there is never a tie.
+-- In units of 2 ^ -1074 a finite value is m * 2 ^ j with m below 2 ^ 53, and the root of X units is √(X * 2 ^ 1074).
+-- A value of Y units is farther from it than one of z units: for Y below z, the mean of the two is below the root, and for Y above z above it;
+-- here with both sides doubled and squared.
+use Prim.Native.Nat.{ℕ, zero, suc, _+_, _-_, _*_, _/_, _%_, _^_, _≤_, _<_}
+use native.Mathlib.Nat.{
+  lt-irrefl, lt-trans, lt-of-not-le, not-le-of-lt, zero-lt-suc, zero-mul, le-of-eq, lt-of-lt-of-le, lt-of-le-of-lt, mul-assoc, mul-mul-mul-comm, mul-pos, mul-le-mul,
+  mul-le-mul-left, mul-le-mul-right, mul-lt-mul-of-pos-right, lt-of-mul-lt-mul-right, pow-succ'
+}
 use native.Mathlib.Omega.{arith}
 use native.Mathlib.Decide.{decLe, decLt}
 use mathlib.Core.Path.{_≡_, refl, sym, ap, _∙_}
-use mathlib.Core.Bool.{false, _&&_}
-use lib.Dec.{T, leb, ltb, eqb, leb→le, ltb→lt}
-use lib.IntN.{ℤ, pos, negsuc}
-use lib.Pow.{pow-add, pow-pos, pow-mono, shl-lt}
-use lib.Ieee.{fin, binary64, low, size, odd, up, down, fits}
-use lib.Ieee.Fits.{and-l, and-r}
+use mathlib.Core.Bool.{Bool, true, false}
+use lib.Dec.{T, lit<, lit≤}
+use lib.IntN.{ℤ}
+use lib.Pow.{pow-add, pow-pos, pow-mono}
+use lib.Ieee.{Float, nan, inf, fin, binary64, low, size, odd, up, down, fits}
+use lib.Ieee.Fits.{up-pos}
 use lib.Ieee.Digits.{back}
 use lib.Ieee.Exact.{HasValue, odd-sign}
+use lib.Ieee.Scale.{finite}
+use Rattle.ieee.specs.Units.{sign, mag, isNum}
 use Rattle.root.specs.Root.{floorRoot, rootOf, sqrtOf}
+use Rattle.root.specs.Nearest.{NearestRoot, IsRoot}
 use Rattle.root.specs.Inner.{Normal}
-use Rattle.ieee.proofs.Units.{exponent}
+use Rattle.ieee.proofs.Grid.{mag-of-value, sign-of-value}
+use Rattle.ieee.proofs.Units.{units}
+use Rattle.ieee.proofs.Ops.{finite-inside}
 use Rattle.root.proofs.RootFloor.{floor-le, floor-lt, halves}
-use Rattle.root.proofs.RootPattern.{Signif, signif, around, rounded, sqrt-units}
+use Rattle.root.proofs.RootPattern.{Signif, signif, around, rounded}
 use Rattle.root.proofs.RootDigits.{Ready, even-j, odd-j, normal-of}
+use Rattle.root.proofs.RootResults.{root-fits}
 
-pub record Nearest (X z : ℕ) : Type 0 where
-  pub below : (m j : ℕ) → m < 2 ^ 53 → m * 2 ^ j < z → (m * 2 ^ j + z) * (m * 2 ^ j + z) < 4 * (X * 2 ^ 1074)
-  pub above : (m j : ℕ) → m < 2 ^ 53 → z < m * 2 ^ j → 4 * (X * 2 ^ 1074) < (m * 2 ^ j + z) * (m * 2 ^ j + z)
+record Nearest (X z : ℕ) : Type 0 where
+  below : (m j : ℕ) → m < 2 ^ 53 → m * 2 ^ j < z → (m * 2 ^ j + z) * (m * 2 ^ j + z) < 4 * (X * 2 ^ 1074)
+  above : (m j : ℕ) → m < 2 ^ 53 → z < m * 2 ^ j → 4 * (X * 2 ^ 1074) < (m * 2 ^ j + z) * (m * 2 ^ j + z)
 
 -- ---- the gaps around R * 2 ^ k, for an R of 53 digits
 split : (j k : ℕ) → k ≤ j → 2 ^ j ≡ 2 ^ (j - k) * 2 ^ k
@@ -139,7 +150,7 @@ near-enough t k m j a h =
     omega (arith, f)
 
 -- of every value t * 2 ^ k units that binary64 holds
-pub root-nearest : (t k : ℕ) → 0 < t → t < 2 ^ 53 → t * 2 ^ k < 2 ^ 2098 → Found (t * 2 ^ k)
+root-nearest : (t k : ℕ) → 0 < t → t < 2 ^ 53 → t * 2 ^ k < 2 ^ 2098 → Found (t * 2 ^ k)
 root-nearest t k p h l = go (decLe 1 (j % 2))
   where
     m : ℕ
@@ -155,34 +166,81 @@ root-nearest t k p h l = go (decLe 1 (j % 2))
     go (yes g) = from-ready t k j (2 * m) (near-enough t k m j a l) (odd-j t k m j a (omega arith))
     go (no g) = from-ready t k j m (near-enough t k m j a l) (even-j t k m j a (omega arith))
 
--- ---- of a value of binary64, finite and above zero
--- its units
-pub placed : (m : ℕ) (e : ℤ) → m < 2 ^ 53 → down e ≤ 2 ^ 1074 → m * up e < 2 ^ 1024 * down e → (j : ℕ) × HasValue (fin false m e) false (m * 2 ^ j) (2 ^ 1074) × (m * 2 ^ j < 2 ^ 2098)
-placed m (pos a) h d l =
-    let e : m * 2 ^ (a + 1074) ≡ m * 2 ^ a * 2 ^ 1074 = ap (λ (z : ℕ). m * z) (pow-add 2 a 1074) ∙ sym (mul-assoc m (2 ^ a) (2 ^ 1074)) in
-    let b : m * 2 ^ a < 2 ^ 1024 = l in
-    (a + 1074, (refl, sym e ∙ sym (mul-one (m * 2 ^ (a + 1074)))), rw e (mul-lt-mul-of-pos-right b (pow-pos 1074)))
-placed m (negsuc a) h d l =
-    let g : suc a ≤ 1074 = exponent (suc a) 1074 d in
-    let j = 1074 - suc a in
-    let e : 2 ^ 1074 ≡ 2 ^ j * 2 ^ suc a = split 1074 (suc a) g in
-    let k : 53 + j ≤ 2098 = omega arith in
-    (j, (refl, ap (λ (z : ℕ). z * 2 ^ 1074) (mul-one m) ∙ ap (λ (z : ℕ). m * z) e ∙ sym (mul-assoc m (2 ^ j) (2 ^ suc a))), lt-of-lt-of-le (shl-lt 53 j h) (pow-mono k))
+-- ---- of every double
+-- n units, as digits and their place
+at-place : (n q j : ℕ) → 0 < n → n ≡ q * 2 ^ j → q < 2 ^ 53 → n < 2 ^ 2098 → Found n
+at-place n zero j p e h l = absurd (omega (arith, zero-mul (2 ^ j)))
+at-place n (suc q) j p e h l = rw e (root-nearest (suc q) j (zero-lt-suc q) h (rw e at l))
 
--- For every x of binary64 that is finite and above zero: x is X units, its root is z units, and every other finite value of binary64 is farther from the root of x.
-pub sqrt-nearest : (m : ℕ) (e : ℤ) → T (fits binary64 (fin false (suc m) e))
-    → (X : ℕ) × (z : ℕ) × HasValue (fin false (suc m) e) false X (2 ^ 1074) × HasValue (sqrtOf (fin false (suc m) e)) false z (2 ^ 1074) × Nearest X z
-unfolding fits
+-- a value that is finite and above zero has some units
+some : (m n a b K : ℕ) → suc m * a * K ≡ n * b → 0 < a → 0 < K → 0 < n
+some m zero a b K e p q = absurd (let h : 0 < suc m * a * K = mul-pos (mul-pos (zero-lt-suc m) p) q in omega (arith, zero-mul b))
+some m (suc n) a b K e p q = zero-lt-suc n
+
+-- an infinity counts as B units
+far : (X z B K : ℕ) → X < B → 4 * K ≤ B → 4 * (X * K) < (B + z) * (B + z)
+far X z B K h k =
+    let a : X * (4 * K) ≤ X * B = mul-le-mul-left X k in
+    let b : suc X * B ≤ B * B = mul-le-mul-right B h in
+    omega arith
+
+less : (a b : ℕ) → (a - b) * (a - b) ≤ (0 * 2 ^ 0 + a) * (0 * 2 ^ 0 + a)
+less a b = let h : a - b ≤ 0 * 2 ^ 0 + a = omega arith in mul-le-mul h h
+
+under-zero : (Y N : ℕ) → 0 < N → (0 - Y) * (0 - Y) < 4 * N
+under-zero Y N p = let e : 0 - Y ≡ 0 = omega arith in rw e (omega arith)
+
+ends-of-value : (x : Float) (s : Bool) (n c : ℕ) → HasValue x s n c → T (finite x)
+ends-of-value nan s n c v = absurd v
+ends-of-value (inf t) s n c v = absurd v
+ends-of-value (fin t m e) s n c v = tt
+
+module _ (X z : ℕ) (p : 0 < X) (inside : X < 2 ^ 2098) (short : z < 2 ^ 2098) (near : Nearest X z) where
+  below-it : (y : Float) → T (fits binary64 y) → T (isNum y) → mag binary64 y < z → (mag binary64 y + z) * (mag binary64 y + z) < 4 * (X * 2 ^ 1074)
+  below-it nan h t l = absurd t
+  below-it (inf s) h t l = absurd (lt-irrefl z (lt-trans short l))
+  below-it (fin s m e) h t l = let u = units binary64 s m e h in rw (u .form) (near .below (u .digits) (u .place) (u .few-digits) (rw (u .form) at l))
+
+  above-it : (y : Float) → T (fits binary64 y) → T (isNum y) → z < mag binary64 y → 4 * (X * 2 ^ 1074) < (mag binary64 y + z) * (mag binary64 y + z)
+  above-it nan h t l = absurd t
+  above-it (inf s) h t l = far X z (2 ^ 2098) (2 ^ 1074) inside (lit≤ tt)
+  above-it (fin s m e) h t l = let u = units binary64 s m e h in rw (u .form) (near .above (u .digits) (u .place) (u .few-digits) (rw (u .form) at l))
+
+  -- 0 is the farthest that a negative value can be near
+  beyond : (Y : ℕ) → (z - Y) * (z - Y) < 4 * (X * 2 ^ 1074)
+  beyond Y = go z refl
+    where
+      go : (w : ℕ) → w ≡ z → (z - Y) * (z - Y) < 4 * (X * 2 ^ 1074)
+      go zero e = rw (← e) (under-zero Y (X * 2 ^ 1074) (mul-pos p (pow-pos 1074)))
+      go (suc w) e = lt-of-le-of-lt (less z Y) (near .below 0 0 (lit< tt) (rw (← e) (zero-lt-suc w)))
+
+-- x finite and above zero
+sqrt-nearest : (m : ℕ) (e : ℤ) → T (fits binary64 (fin false (suc m) e)) → NearestRoot (fin false (suc m) e) (sqrtOf (fin false (suc m) e))
+unfolding sqrtOf
 sqrt-nearest m e f =
-    let A = eqb (suc m % 2) 1 in
-    let B = ltb (suc m) (2 ^ 53) in
-    let C = leb (down e) (2 ^ 1074) in
-    let D = ltb (suc m * up e) (2 ^ 1024 * down e) in
-    let b : suc m < 2 ^ 53 = ltb→lt (suc m) (2 ^ 53) (and-r A B (and-l (A && B) C (and-l (A && B && C) D f))) in
-    let c : down e ≤ 2 ^ 1074 = leb→le (down e) (2 ^ 1074) (and-r (A && B) C (and-l (A && B && C) D f)) in
-    let d : suc m * up e < 2 ^ 1024 * down e = ltb→lt (suc m * up e) (2 ^ 1024 * down e) (and-r (A && B && C) D f) in
-    let p = placed (suc m) e b c d in
-    let X = suc m * 2 ^ (p .0) in
-    let r = root-nearest (suc m) (p .0) (zero-lt-suc m) b (p .2) in
-    let s = sqrt-units (fin false (suc m) e) X (mul-pos (zero-lt-suc m) (pow-pos (p .0))) (p .1) in
-    (X, r .0, p .1, rw s (r .1), r .2)
+    let x = fin false (suc m) e in
+    let X = mag binary64 x in
+    let u = units binary64 false (suc m) e f in
+    let p : 0 < X = some m X (up e) (down e) (2 ^ 1074) (u .cross) (up-pos e) (pow-pos 1074) in
+    let r = at-place X (u .digits) (u .place) p (u .form) (u .few-digits) (u .inside) in
+    let is : mag binary64 (rootOf X) ≡ r .0 = mag-of-value binary64 (rootOf X) false (r .0) (r .1) in
+    let ends : T (finite (rootOf X)) = ends-of-value (rootOf X) false (r .0) (2 ^ 1074) (r .1) in
+    let short : r .0 < 2 ^ 2098 = rw is at (finite-inside {f = binary64} {x = rootOf X} (record { held = root-fits X; ends = ends })) in
+    record {
+      held = root-fits X;
+      ends = ends;
+      plus = sign-of-value (rootOf X) false (r .0) (2 ^ 1074) (r .1);
+      below = λ y h t s l. rw is (below-it X (r .0) p (u .inside) short (r .2) y h t (rw is at l));
+      above = λ y h t s l. rw is (above-it X (r .0) p (u .inside) short (r .2) y h t (rw is at l));
+      negative = λ y h t s. rw is (beyond X (r .0) p (u .inside) short (r .2) (mag binary64 y));
+    }
+
+-- for every x of binary64
+pub sqrt-is-root : (x : Float) → T (fits binary64 x) → IsRoot x (sqrtOf x)
+unfolding sqrtOf IsRoot
+sqrt-is-root nan f = refl
+sqrt-is-root (inf false) f = refl
+sqrt-is-root (inf true) f = refl
+sqrt-is-root (fin s zero e) f = refl
+sqrt-is-root (fin false (suc m) e) f = sqrt-nearest m e f
+sqrt-is-root (fin true (suc m) e) f = refl

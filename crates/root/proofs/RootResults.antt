@@ -12,7 +12,7 @@ use Rattle.ieee.proofs.Grid.{rounded}
 use Rattle.ieee.proofs.Sums.{Size}
 use Rattle.ieee.proofs.Alikes.{one}
 
-root-fits : (n : ℕ) → T (fits binary64 (rootOf n))
+pub root-fits : (n : ℕ) → T (fits binary64 (rootOf n))
 unfolding rootOf
 root-fits n = round-fits binary64 false (2 * floorRoot (n * 4 ^ 54) + sticky (n * 4 ^ 54) (floorRoot (n * 4 ^ 54))) (2 ^ 592)
 
