@@ -40,7 +40,8 @@ cut p m a b e f u l he hf hp hm r = from (p - m) (omega arith)
             omega (arith, mul-le-mul-right u k, r)
 
 -- either way round
-signed : (p m a b e f u : ℕ) → e ≤ 62 → f ≤ 62 → Near p a e u → Near m b f u → 2 ^ 51 * a ≤ 2 ^ 51 * b + (2 ^ 51 + 64) * u → 2 ^ 51 * b ≤ 2 ^ 51 * a + (2 ^ 51 + 64) * u
+signed : (p m a b e f u : ℕ) → e ≤ 62 → f ≤ 62 → Near p a e u → Near m b f u → 2 ^ 51 * a ≤ 2 ^ 51 * b + (2 ^ 51 + 64) * u
+    → 2 ^ 51 * b ≤ 2 ^ 51 * a + (2 ^ 51 + 64) * u
     → Close (not (leb m p)) (cond (leb m p) (min (p - m) (2 ^ 51)) (min (m - p) (2 ^ 51))) a b u
 signed p m a b e f u he hf hp hm r s = go (leb m p) (leb→le m p) (nleb→lt m p)
   where
@@ -88,7 +89,8 @@ module _ (n d z : ℕ) (lo : z * d ≤ 2 ^ 58 * n) (hi : 2 ^ 58 * n ≤ (z + 3) 
       up : (a b u w y : ℕ) → 2 ^ 47 * a ≤ 2 ^ 47 * b + (2 ^ 47 + 1) * u → 2 ^ 51 * (a * w) ≤ 2 ^ 51 * (b * w + y) + (2 ^ 51 + 64) * (u * w)
       up a b u w y h = omega (arith, mul-le-mul-right w h)
 
-      down : (a b u w y : ℕ) → 2 ^ 47 * b ≤ 2 ^ 47 * a + (2 ^ 47 + 1) * u → 2 ^ 51 * y ≤ 2 * (u * w) → 2 ^ 51 * (b * w + y) ≤ 2 ^ 51 * (a * w) + (2 ^ 51 + 64) * (u * w)
+      down : (a b u w y : ℕ) → 2 ^ 47 * b ≤ 2 ^ 47 * a + (2 ^ 47 + 1) * u → 2 ^ 51 * y ≤ 2 * (u * w)
+          → 2 ^ 51 * (b * w + y) ≤ 2 ^ 51 * (a * w) + (2 ^ 51 + 64) * (u * w)
       down a b u w y h g = omega (arith, mul-le-mul-right w h)
 
 -- z is 2 ^ 58 times the square of x / (c * 2 ^ 61), rounded down, or 3 short at most
@@ -122,8 +124,10 @@ module _ (b : ℕ) (h : b ≤ tau-bits) where
   hi = above-square (whole b) (2 ^ 1014) (scaled b) (square b) (lt-div-mul-add (lit< tt)) (lt-div-mul-add (lit< tt)) scaled-lt
 
   -- the rule at any double up to TAU, against the exact sums at t * t = whole b ^ 2 / 2 ^ 2150
-  pub cosine-40 : Close (negative (square b)) (size (square b)) (exact (whole b * whole b) (2 ^ 2150) 20 .0) (exact (whole b * whole b) (2 ^ 2150) 20 .1) (under (2 ^ 2150) 20)
+  pub cosine-40 : Close (negative (square b)) (size (square b)) (exact (whole b * whole b) (2 ^ 2150) 20 .0)
+      (exact (whole b * whole b) (2 ^ 2150) 20 .1) (under (2 ^ 2150) 20)
   cosine-40 = through-40 (whole b * whole b) (2 ^ 2150) (square b) lo hi square-le
 
-  pub cosine-42 : Close (negative (square b)) (size (square b)) (exact (whole b * whole b) (2 ^ 2150) 21 .1) (exact (whole b * whole b) (2 ^ 2150) 21 .0) (under (2 ^ 2150) 21)
+  pub cosine-42 : Close (negative (square b)) (size (square b)) (exact (whole b * whole b) (2 ^ 2150) 21 .1)
+      (exact (whole b * whole b) (2 ^ 2150) 21 .0) (under (2 ^ 2150) 21)
   cosine-42 = through-42 (whole b * whole b) (2 ^ 2150) (square b) lo hi square-le

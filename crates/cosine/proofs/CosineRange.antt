@@ -3,7 +3,8 @@
 use Prim.Native.Nat.{ℕ, zero, suc, _+_, _-_, _*_, _^_, _≤_, _<_}
 use mathlib.Core.Path.{_≡_, refl, sym, ap, _∙_, subst}
 use mathlib.Core.List.{List, [], _∷_}
-use native.Mathlib.Nat.{mul-le-mul, mul-le-mul-left, mul-le-mul-right, pow-zero, pow-suc, pow-le-pow-left, lt-of-not-le, le-of-lt, le-dest, add-zero, add-suc, suc-add, suc-sub-suc}
+use native.Mathlib.Nat.{mul-le-mul, mul-le-mul-left, mul-le-mul-right, pow-zero, pow-suc, pow-le-pow-left, lt-of-not-le, le-of-lt, le-dest}
+use native.Mathlib.Nat.{add-zero, add-suc, suc-add, suc-sub-suc}
 use native.Mathlib.Decide.{decLe}
 use native.Mathlib.Omega.{arith}
 use lib.Dec.{lit≤}
@@ -62,7 +63,8 @@ unfolding exact coefs dot
 exact-dot n d zero = (rw (pow-zero n, pow-zero d), rw (pow-zero n, pow-zero d))
 exact-dot n d (suc k) = (
   rw (pow-zero d, shift n d k 0 (scale (divisor k) (coefs divisor k .1)), dot-scale (wt n d k) 0 (divisor k) (coefs divisor k .1))
-      (join (exact n d k .1) (dot (wt n d k) 0 (coefs divisor k .1)) d (divisor k) (n ^ suc k) (n ^ (suc k - 0)) (ap (λ (x : ℕ). n ^ x) (zeroth k)) (exact-dot n d k .1)),
+      (join (exact n d k .1) (dot (wt n d k) 0 (coefs divisor k .1)) d (divisor k) (n ^ suc k) (n ^ (suc k - 0))
+      (ap (λ (x : ℕ). n ^ x) (zeroth k)) (exact-dot n d k .1)),
   rw (pow-zero d, shift n d k 0 (scale (divisor k) (coefs divisor k .0)), dot-scale (wt n d k) 0 (divisor k) (coefs divisor k .0))
       (join' (exact n d k .0) (dot (wt n d k) 0 (coefs divisor k .0)) d (divisor k) (n ^ (suc k - 0)) (exact-dot n d k .0)),
 )

@@ -54,7 +54,8 @@ up-from x h = go (round binary64 false (2 ^ 51 + x) 1) (round-whole binary64 fal
 
 down-from : (x : ℕ) → 0 < x → x ≤ 2 ^ 51 → sub binary64 (ofInt binary64 (pos (2 ^ 51 - x))) full ≡ neg (ofInt binary64 (pos x))
 unfolding sub add neg sum ofInt
-down-from x p h = go (2 ^ 51 - x) (omega arith) (round binary64 false (2 ^ 51 - x) 1) (round-whole binary64 false (2 ^ 51 - x) (omega arith)) ∙ sym (round-neg binary64 x 1)
+down-from x p h = go (2 ^ 51 - x) (omega arith) (round binary64 false (2 ^ 51 - x) 1)
+    (round-whole binary64 false (2 ^ 51 - x) (omega arith)) ∙ sym (round-neg binary64 x 1)
   where
     go : (w : ℕ) → w + x ≡ 2 ^ 51 → (y : Float) → HasValue y false w 1 → sub binary64 y full ≡ round binary64 true x 1
     go w g nan v = absurd v

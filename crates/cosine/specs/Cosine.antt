@@ -1,4 +1,5 @@
--- The cosine's rule, over whole numbers: 2 ^ 51 stands for 1 in a term and a sum, 2 ^ 58 for 1 in t * t. The terms and the sums are the crate terms's.
+-- The cosine's rule, over whole numbers: 2 ^ 51 stands for 1 in a term and a sum, 2 ^ 58 for 1 in t * t. The terms and the sums are
+-- the crate terms's.
 -- b is the bits of the argument t, a double above zero that is not subnormal.
 use Prim.Native.Nat.{ℕ, _+_, _-_, _*_, _/_, _%_, _^_, min}
 use mathlib.Core.Bool.{Bool, true, false, not, cond}

@@ -1,4 +1,4 @@
--- What the cosine's own functions say to each other: a difference of two sums, as a double.
+-- Told between functions: a difference of two sums, as a double.
 use Prim.Native.Nat.{ℕ, _-_, _^_, min}
 use mathlib.Core.Bool.{not, cond}
 use lib.Dec.{leb}
@@ -7,4 +7,5 @@ use Rattle.cosine.specs.Cosine.{signed, unitOf}
 
 -- the difference of the two sums in units of 1 / 2 ^ 51, as a double with its sign, cut to -1 and 1
 abbrev pub differenceOf : ℕ → ℕ → Float
-differenceOf plus minus = signed (not (leb minus plus)) (unitOf (cond (leb minus plus) (min (plus - minus) (2 ^ 51)) (min (minus - plus) (2 ^ 51))))
+differenceOf plus minus = signed (not (leb minus plus))
+    (unitOf (cond (leb minus plus) (min (plus - minus) (2 ^ 51)) (min (minus - plus) (2 ^ 51))))

@@ -1,20 +1,20 @@
 -- The uniform draw lies from 2 ^ -54 up and at most at 1: each of its operations keeps the order, and the ends are computed.
-use Prim.Native.Nat.{ℕ, _+_, _-_, _*_, _^_, _≤_, _<_}
+use Prim.Native.Nat.{ℕ, _+_, _-_, _*_, _/_, _^_, _≤_, _<_}
 use mathlib.Core.Path.{_≡_}
 use mathlib.Core.Bool.{true, false}
 use native.Mathlib.Nat.{le-of-lt, mul-pos}
 use native.Mathlib.Omega.{arith}
 use lib.Dec.{T, lit<}
 use lib.IntN.{pos, negsuc}
-use lib.Ieee.{Float, nan, inf, fin, binary64, up, down, add, div, sum, ofInt, round, fits, le}
+use lib.Ieee.{Float, nan, inf, fin, binary64, up, down, add, div, sum, ofInt, round, le}
 use lib.Ieee.Exact.{HasValue}
 use lib.Ieee.Scale.{round-same}
 use lib.Ieee.Back.{round-whole}
 use lib.Ieee.Fits.{down-pos, div-fits}
 use lib.Ieee.Order.{round-mono}
 use lib.Ieee.Positive.{positive, between, le→cross}
-use Rattle.draw.specs.Uniform.{uniformAt}
-use Rattle.draw.proofs.Values.{least, one}
+use Rattle.draw.specs.Uniform.{uniformAt, uniformOf}
+use Rattle.draw.proofs.Values.{least, one, Drawn}
 
 abbrev half : Float
 half = fin false 1 (negsuc 0)
@@ -52,12 +52,18 @@ over (fin false m e) p l h =
       round-mono binary64 (m * up e * 1) (1 * 2 ^ 53 * down e) 1 1 d-pos (lit< tt) (omega arith),
     )
 
-pub uniform-range : (n : ℕ) → n < 2 ^ 53 → T (fits binary64 (uniformAt n)) × (T (le least (uniformAt n)) × T (le (uniformAt n) one))
+range : (n : ℕ) → n < 2 ^ 53 → T (le least (uniformAt n)) × T (le (uniformAt n) one)
 unfolding uniformAt round
-uniform-range n h =
+range n h =
     let s = round binary64 false (2 * n + 1) 2 in
     let lo : T (le half s) = round-mono binary64 1 2 (2 * n + 1) 2 (lit< tt) (lit< tt) (omega arith) in
-    let hi : T (le s most) = round-mono binary64 (2 * n + 1) 2 (2 ^ 54 - 1) 2 (lit< tt) (lit< tt) (omega arith) in (
-      div-fits binary64 (add binary64 (ofInt binary64 (pos n)) half) most,
-      rw (half-more n (le-of-lt h)) (over s (between half s most tt tt lo hi) lo hi),
-    )
+    let hi : T (le s most) = round-mono binary64 (2 * n + 1) 2 (2 ^ 54 - 1) 2 (lit< tt) (lit< tt) (omega arith) in
+    rw (half-more n (le-of-lt h)) (over s (between half s most tt tt lo hi) lo hi)
+
+-- of N, and of an output of 64 bits
+pub uniform-drawn : (n : ℕ) → n < 2 ^ 53 → Drawn (uniformAt n)
+unfolding uniformAt
+uniform-drawn n h = record { held = div-fits binary64 (add binary64 (ofInt binary64 (pos n)) half) most; from = range n h .0; upto = range n h .1 }
+
+pub output-drawn : (word : ℕ) → word < 2 ^ 64 → Drawn (uniformOf word)
+output-drawn word h = uniform-drawn (word / 2 ^ 11) (omega arith)

@@ -3,7 +3,8 @@
 use Prim.Native.Nat.{ℕ, suc, _+_, _-_, _*_, _/_, _%_, _^_, _≤_, _<_, min}
 use mathlib.Core.Path.{_≡_, refl, sym, ap, _∙_, subst}
 use mathlib.Core.Bool.{Bool, true, false, not, cond}
-use native.Mathlib.Nat.{add-le-add, lt-of-not-le, le-div-iff-mul-le, mul-le-mul-right, zero-add, pow-suc, mod-eq-of-lt, le-refl, le-trans, le-of-lt, lt-of-le-of-lt, lt-of-lt-of-le, mul-pos, min-le-right, mul-assoc}
+use native.Mathlib.Nat.{add-le-add, lt-of-not-le, le-div-iff-mul-le, mul-le-mul-right, zero-add, pow-suc, mod-eq-of-lt, le-refl, le-trans}
+use native.Mathlib.Nat.{le-of-lt, lt-of-le-of-lt, lt-of-lt-of-le, mul-pos, min-le-right, mul-assoc}
 use native.Mathlib.Decide.{decLe}
 use native.Mathlib.Omega.{arith}
 use lib.Dec.{T, leb, eqb, eqb→eq, lit<, lit≤}
@@ -107,7 +108,8 @@ pattern-grows n m h = either (decLe (ieee.size m - 53) (ieee.size n - 53))
     sizes : ieee.size n ≤ ieee.size m
     sizes = size-le n (ieee.size m) (lt-of-le-of-lt h (size-lt m))
 
-    either : Dec (ieee.size m - 53 ≤ ieee.size n - 53) → (ieee.size n - 53) * 2 ^ 52 + n / 2 ^ (ieee.size n - 53) ≤ (ieee.size m - 53) * 2 ^ 52 + m / 2 ^ (ieee.size m - 53)
+    either : Dec (ieee.size m - 53 ≤ ieee.size n - 53) → let j = ieee.size n - 53 in let k = ieee.size m - 53 in
+        j * 2 ^ 52 + n / 2 ^ j ≤ k * 2 ^ 52 + m / 2 ^ k
     either (yes l) =
         let e : ieee.size n - 53 ≡ ieee.size m - 53 = omega (arith, sizes) in
         rw e (add-le-add (le-refl ((ieee.size m - 53) * 2 ^ 52)) (div-grows (2 ^ (ieee.size m - 53)) (pow-pos (ieee.size m - 53)) h))
@@ -148,24 +150,30 @@ least = fin false 1 (negsuc 53)
 abbrev pub one : Float
 one = fin false 1 (pos 0)
 
+-- all that the laws below ask of a uniform
+pub record Drawn (u : Float) : Type 0 where
+  pub held : T (fits binary64 u)
+  pub from : T (le least u)
+  pub upto : T (le u one)
+
 -- u is what the logarithm asks
-pub draw-bits : (u : Float) → T (le least u) → T (le u one) → (969 * 2 ^ 52 ≤ toBits binary64 u) × (toBits binary64 u ≤ 1023 * 2 ^ 52)
+pub draw-bits : {u : Float} → Drawn u → (969 * 2 ^ 52 ≤ toBits binary64 u) × (toBits binary64 u ≤ 1023 * 2 ^ 52)
 unfolding toBits
-draw-bits u lo hi =
-    let p = between least u one tt tt lo hi in
-    (le-trans (ends .0) (bits-grow least u tt p lo), le-trans (bits-grow u one p tt hi) (ends .1))
+draw-bits {u} d =
+    let p = between least u one tt tt (d .from) (d .upto) in
+    (le-trans (ends .0) (bits-grow least u tt p (d .from)), le-trans (bits-grow u one p tt (d .upto)) (ends .1))
   where
     ends : (969 * 2 ^ 52 ≤ toBits binary64 least) × (toBits binary64 one ≤ 1023 * 2 ^ 52)
     ends = (lit≤ tt, lit≤ tt)
 
 -- and t is what the cosine asks
-pub angle-bits : (u : Float) → T (le least u) → T (le u one)
+pub angle-bits : {u : Float} → Drawn u
     → (952 * 2 ^ 52 ≤ toBits binary64 (mul binary64 tau u)) × (toBits binary64 (mul binary64 tau u) ≤ 0x401921FB54442D18)
 unfolding toBits ofBits mul le
-angle-bits u lo hi =
-    let p = between least u one tt tt lo hi in
-    let low : T (le (mul binary64 tau least) (mul binary64 tau u)) = mul-mono binary64 tau tau least u tt tt tt p tt lo in
-    let high : T (le (mul binary64 tau u) (mul binary64 tau one)) = mul-mono binary64 tau tau u one tt tt p tt tt hi in
+angle-bits {u} d =
+    let p = between least u one tt tt (d .from) (d .upto) in
+    let low : T (le (mul binary64 tau least) (mul binary64 tau u)) = mul-mono binary64 tau tau least u tt tt tt p tt (d .from) in
+    let high : T (le (mul binary64 tau u) (mul binary64 tau one)) = mul-mono binary64 tau tau u one tt tt p tt tt (d .upto) in
     let q = between (mul binary64 tau least) (mul binary64 tau u) (mul binary64 tau one) tt tt low high in (
       le-trans (ends .0) (bits-grow (mul binary64 tau least) (mul binary64 tau u) tt q low),
       le-trans (bits-grow (mul binary64 tau u) (mul binary64 tau one) q tt high) (ends .1),
@@ -176,17 +184,21 @@ angle-bits u lo hi =
 
 -- ---- the value of a double by its bits
 
-twice : (x : Float) (s : Bool) (a c : ℕ) → HasValue x s a c → HasValue x s (a * 2) (c * 2)
-twice nan s a c v = v
-twice (inf t) s a c v = v
-twice (fin t m e) s a c v = (v .0, omega (arith, v .1))
+-- the same fraction, by k above and below
+pub spread-value : (k : ℕ) (x : Float) (s : Bool) (a c : ℕ) → HasValue x s a c → HasValue x s (a * k) (c * k)
+spread-value k nan s a c v = v
+spread-value k (inf t) s a c v = v
+spread-value k (fin t m e) s a c v = (v .0, spread (m * up e) a c (down e) k (v .1))
+  where
+    spread : (x a c d k : ℕ) → x * c ≡ a * d → x * (c * k) ≡ a * k * d
+    spread x a c d k h = let g = ap (λ (z : ℕ). z * k) h in omega arith
 
 fields-value : (x r : ℕ) → suc x < 2047 → HasValue (ofFields binary64 false (suc x) r) false ((r + 2 ^ 52) * 2 ^ suc x) (2 ^ 1075)
 unfolding ofFields
 fields-value x r h =
     rw (ne-eqb (suc x) 2047 (λ (e : suc x ≡ 2047). (omega arith)))
     (subst (λ (a : ℕ). HasValue (odd 53 false (2 ^ 52 + r) x 1074) false a (2 ^ 1075)) (regroup r (2 ^ 52) x)
-    (twice (odd 53 false (2 ^ 52 + r) x 1074) false ((2 ^ 52 + r) * 2 ^ x) (2 ^ 1074) (odd-sign 53 false (2 ^ 52 + r) x 1074)))
+    (spread-value 2 (odd 53 false (2 ^ 52 + r) x 1074) false ((2 ^ 52 + r) * 2 ^ x) (2 ^ 1074) (odd-sign 53 false (2 ^ 52 + r) x 1074)))
   where
     regroup : (r k x : ℕ) → (k + r) * 2 ^ x * 2 ≡ (r + k) * 2 ^ suc x
     regroup r k x = rw (pow-suc 2 x) (omega arith)
@@ -200,4 +212,5 @@ at b lo hi =
 
 pub bits-value : (t : Float) → T (fits binary64 t) → 2 ^ 52 ≤ toBits binary64 t → toBits binary64 t < 2047 * 2 ^ 52
     → HasValue t false (whole (toBits binary64 t)) (2 ^ 1075)
-bits-value t f lo hi = subst (λ (x : Float). HasValue x false (whole (toBits binary64 t)) (2 ^ 1075)) (ofBits-toBits binary64 t f) (at (toBits binary64 t) lo hi)
+bits-value t f lo hi = subst (λ (x : Float). HasValue x false (whole (toBits binary64 t)) (2 ^ 1075)) (ofBits-toBits binary64 t f)
+    (at (toBits binary64 t) lo hi)

@@ -17,14 +17,13 @@ lnOfDraw word = lnOf (uniformOf word)
 abbrev pub cosOfDraw : ℕ → Float
 cosOfDraw word = cosOf (mul binary64 tau (uniformOf word))
 
--- sqrt(-2 ln u1) * cos(TAU * u2), of the outputs that give u1 and u2
-abbrev pub boxMuller : ℕ → ℕ → Float
-boxMuller first second =
-    mul binary64 (sqrtOf (mul binary64 (neg (fin false 1 (pos 1))) (lnOfDraw first))) (cosOfDraw second)
+-- sqrt(-2 ln u1) * cos(TAU * u2)
+abbrev pub boxMuller : Float → Float → Float
+boxMuller u1 u2 = mul binary64 (sqrtOf (mul binary64 (neg (fin false 1 (pos 1))) (lnOf u1))) (cosOf (mul binary64 tau u2))
 
 -- the Gaussian that the state s gives: u1 is drawn, and then u2
 abbrev pub gaussianOf : ℕ → Float
-gaussianOf s = boxMuller (outputOf s) (outputOf (afterOf s))
+gaussianOf s = boxMuller (uniformOf (outputOf s)) (uniformOf (outputOf (afterOf s)))
 
 -- the state that it leaves behind
 abbrev pub afterGaussian : ℕ → ℕ

@@ -1,4 +1,5 @@
-// The draws: the generator SplitMix64, the uniform and the Gaussian draw. The two series behind the Gaussian are crates of their own, cosine and logarithm.
+// The draws: the generator SplitMix64, the uniform and the Gaussian draw. The two series behind the Gaussian are crates of their own,
+// cosine and logarithm.
 use cosine::cos;
 use cosine::cos_sums;
 use cosine::unit;
@@ -61,7 +62,8 @@ impl SplitMix64 {
     }
 
     // The next Gaussian draw: u1 is drawn, and then u2. The cosine is asked for as its two sums, in a struct, and before the root:
-    // the compiler leaves that call in its place, where the machine works it out beside the logarithm. It would put off a double to the end.
+    // the compiler leaves that call in its place, where the machine works it out beside the logarithm. It would put off a double to the
+    // end.
     pub fn gaussian(self) -> Draw
         ensures { λ r. ⌜ (r .value ≡ gaussianOf (self .state)) × (r .rng .state ≡ afterGaussian (self .state)) ⌝ }
     {

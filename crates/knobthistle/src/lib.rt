@@ -25,9 +25,9 @@ ghost use Rattle.sheet.specs.Answer.{Answered};
 pub extern "C" fn knob_uniform(state: &mut u64) -> f64
     ensures { λ r. ⌜ (r ≡ uniformOf (outputOf (now (state .entry)))) × (now (state .exit) ≡ afterOf (now (state .entry))) ⌝ }
 {
-    let d = SplitMix64::new(*state).uniform();
-    *state = d.rng.state;
-    d.value
+    let u = SplitMix64::new(*state).uniform();
+    *state = u.rng.state;
+    u.value
 }
 
 // The next Gaussian draw; the state moves on.

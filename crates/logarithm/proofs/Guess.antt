@@ -11,7 +11,8 @@ use Rattle.logarithm.specs.Logarithm.{ratio}
 words : (f : ℕ) → f / 2 ^ 14 * 2 ^ 64 + f * 2 ^ 50 % 2 ^ 64 ≡ f * 2 ^ 50
 words f = omega arith
 
-pub rest-is : (f g d p₁ p₀ r : ℕ) → p₁ ≡ g * d / 2 ^ 64 → p₀ ≡ g * d % 2 ^ 64 → f / 2 ^ 14 * 2 ^ 64 + f * 2 ^ 50 % 2 ^ 64 ≡ p₁ * 2 ^ 64 + p₀ + r → f * 2 ^ 50 ≡ g * d + r
+pub rest-is : (f g d p₁ p₀ r : ℕ) → p₁ ≡ g * d / 2 ^ 64 → p₀ ≡ g * d % 2 ^ 64 → f / 2 ^ 14 * 2 ^ 64 + f * 2 ^ 50 % 2 ^ 64 ≡ p₁ * 2 ^ 64 + p₀ + r
+    → f * 2 ^ 50 ≡ g * d + r
 rest-is f g d p₁ p₀ r e h k = sym (words f) ∙ k ∙ ap (λ (z : ℕ). z + r) ((λ i. e i * 2 ^ 64 + h i) ∙ div-add-mod' (g * d) (2 ^ 64))
 
 pub here : (f g r : ℕ) → f * 2 ^ 50 ≡ g * (f + 2 ^ 53) + r → r < f + 2 ^ 53 → g ≡ ratio f

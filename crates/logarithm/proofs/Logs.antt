@@ -2,7 +2,9 @@
 -- and the exact sum grows with s, so that it is at most that at 1 / 3.
 use Prim.Native.Nat.{ℕ, zero, suc, _+_, _-_, _*_, _/_, _^_, _≤_, _<_}
 use mathlib.Core.Path.{_≡_, refl, ap, _∙_, subst}
-use native.Mathlib.Nat.{le-refl, le-trans, le-of-eq, le-of-lt, lt-of-le-of-lt, lt-of-not-le, div-add-mod', mul-le-mul, mul-le-mul-left, mul-le-mul-right, div-mul-le-self, lt-div-mul-add, pow-zero, pow-suc, pow-le-pow-left, div-le-of-le-mul, div-le-self, mod-lt, mul-pos, one-le-pow, le-of-mul-le-mul-right}
+use native.Mathlib.Nat.{le-refl, le-trans, le-of-eq, le-of-lt, lt-of-le-of-lt, lt-of-not-le, div-add-mod', mul-le-mul, mul-le-mul-left}
+use native.Mathlib.Nat.{mul-le-mul-right, div-mul-le-self, lt-div-mul-add, pow-zero, pow-suc, pow-le-pow-left, div-le-of-le-mul}
+use native.Mathlib.Nat.{div-le-self, mod-lt, mul-pos, one-le-pow, le-of-mul-le-mul-right}
 use native.Mathlib.Decide.{decLe}
 use native.Mathlib.Omega.{arith}
 use lib.Dec.{lit<, lit≤}
@@ -130,7 +132,8 @@ module _ (f g q : ℕ) (pos : 0 < g) (ql : q * g ≤ f * 2 ^ 50) (qh : f * 2 ^ 5
   power-near (suc k) =
       rw (odd-power f k, odd-power g k)
       (subst (λ (e : ℕ). Near (power q k * ratioSquare q / 2 ^ 64) (f ^ (2 * k + 1) * (f * f)) e (g ^ (2 * k + 1) * (g * g))) (count k)
-      (step (power q k) (ratioSquare q) f g (f ^ (2 * k + 1)) (514 * (k + 1)) (g ^ (2 * k + 1)) lo hi (w-small q q-small) (omega (arith, power-small q q-small k)) (power-near k)))
+      (step (power q k) (ratioSquare q) f g (f ^ (2 * k + 1)) (514 * (k + 1)) (g ^ (2 * k + 1)) lo hi (w-small q q-small)
+      (omega (arith, power-small q q-small k)) (power-near k)))
     where
       count : (k : ℕ) → 514 * (k + 1) + 514 ≡ 514 * (suc k + 1)
       count k = omega arith
@@ -139,7 +142,8 @@ module _ (f g q : ℕ) (pos : 0 < g) (ql : q * g ≤ f * 2 ^ 50) (qh : f * 2 ^ 5
   unfolding oddSum odds errSum
   sum-near zero = record { low = le-refl 0; high = le-refl 0 }
   sum-near (suc k) =
-      both (oddSum q k) (odds f g k .0) (errSum k) (odds f g k .1) (power q k / (2 * k + 1)) (f ^ (2 * k + 1)) (514 * (k + 1) + 1) (g ^ (2 * k + 1) * (2 * k + 1))
+      both (oddSum q k) (odds f g k .0) (errSum k) (odds f g k .1) (power q k / (2 * k + 1)) (f ^ (2 * k + 1)) (514 * (k + 1) + 1)
+      (g ^ (2 * k + 1) * (2 * k + 1))
       (sum-near k) (parted (power q k) (f ^ (2 * k + 1)) (514 * (k + 1)) (g ^ (2 * k + 1)) (2 * k + 1) (omega arith) (power-near k))
 
 -- ---- the exact sums grow with the fraction

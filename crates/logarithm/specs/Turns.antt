@@ -1,4 +1,4 @@
--- What the logarithm's own functions say to each other: where the series stands, and what one turn asks and does.
+-- Told between functions: where the series stands, and what one turn asks and does.
 use Prim.Native.Nat.{ℕ, _+_, _*_, _/_, _^_, _≤_, _<_}
 use mathlib.Core.Path.{_≡_}
 use Rattle.logarithm.specs.declared.LnTerms.{LnTerms}

@@ -30,7 +30,8 @@ even-j t k m j a h =
 pub odd-j : (t k m j : ℕ) → Normal t k m j → j % 2 ≡ 1 → Ready t k j (2 * m)
 odd-j t k m j a h =
     let e : j ≡ suc (j / 2 + j / 2) = omega arith in
-    let f : 2 ^ j ≡ 2 * (2 ^ (j / 2) * 2 ^ (j / 2)) = ap (λ (z : ℕ). 2 ^ z) e ∙ pow-succ' 2 (j / 2 + j / 2) ∙ ap (λ (z : ℕ). 2 * z) (pow-add 2 (j / 2) (j / 2)) in
+    let f : 2 ^ j ≡ 2 * (2 ^ (j / 2) * 2 ^ (j / 2)) = ap (λ (z : ℕ). 2 ^ z) e ∙ pow-succ' 2 (j / 2 + j / 2) ∙ ap
+    (λ (z : ℕ). 2 * z) (pow-add 2 (j / 2) (j / 2)) in
     let g = units-same t k m j _ (a .same) f in
     record { full = omega (arith, a .full); short = omega (arith, a .short); near = a .near; same = omega arith }
 

@@ -26,7 +26,8 @@ in-lt (suc d) n h = go (rootIn d (n / 4)) (in-lt d (n / 4) quarter) (leb ((2 * r
     quarter : n / 4 < 4 ^ d
     quarter = omega arith
 
-    go : (r : ℕ) → n / 4 < (r + 1) * (r + 1) → (b : Bool) → (T (not b) → n < (2 * r + 1) * (2 * r + 1)) → n < (cond b (2 * r + 1) (2 * r) + 1) * (cond b (2 * r + 1) (2 * r) + 1)
+    go : (r : ℕ) → n / 4 < (r + 1) * (r + 1) → (b : Bool) → (T (not b) → n < (2 * r + 1) * (2 * r + 1))
+        → n < (cond b (2 * r + 1) (2 * r) + 1) * (cond b (2 * r + 1) (2 * r) + 1)
     go r h true l = omega arith
     go r h false l = l tt
 

@@ -10,7 +10,8 @@ words : (m : ℕ) → m / 2 ^ 10 * 2 ^ 64 + m * 2 ^ 54 % 2 ^ 64 ≡ m * 2 ^ 54
 words m = omega arith
 
 -- what `excess` says, where the product's words are those of g * g
-pub rest-is : (m g p₁ p₀ r : ℕ) → p₁ ≡ g * g / 2 ^ 64 → p₀ ≡ g * g % 2 ^ 64 → m / 2 ^ 10 * 2 ^ 64 + m * 2 ^ 54 % 2 ^ 64 ≡ p₁ * 2 ^ 64 + p₀ + r → m * 2 ^ 54 ≡ g * g + r
+pub rest-is : (m g p₁ p₀ r : ℕ) → p₁ ≡ g * g / 2 ^ 64 → p₀ ≡ g * g % 2 ^ 64 → m / 2 ^ 10 * 2 ^ 64 + m * 2 ^ 54 % 2 ^ 64 ≡ p₁ * 2 ^ 64 + p₀ + r
+    → m * 2 ^ 54 ≡ g * g + r
 rest-is m g p₁ p₀ r e f h = sym (words m) ∙ h ∙ ap (λ (z : ℕ). z + r) ((λ i. e i * 2 ^ 64 + f i) ∙ div-add-mod' (g * g) (2 ^ 64))
 
 pub here : (N g r : ℕ) → N ≡ g * g + r → r ≤ 2 * g → (g * g ≤ N) × (N < (g + 1) * (g + 1))

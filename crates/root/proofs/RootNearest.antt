@@ -4,13 +4,29 @@
 -- here with both sides doubled and squared.
 use Prim.Native.Nat.{ℕ, zero, suc, _+_, _-_, _*_, _/_, _%_, _^_, _≤_, _<_}
 use native.Mathlib.Nat.{
-  lt-irrefl, lt-trans, lt-of-not-le, not-le-of-lt, zero-lt-suc, zero-mul, le-of-eq, lt-of-lt-of-le, lt-of-le-of-lt, mul-assoc, mul-mul-mul-comm, mul-pos, mul-le-mul,
-  mul-le-mul-left, mul-le-mul-right, mul-lt-mul-of-pos-right, lt-of-mul-lt-mul-right, pow-succ'
+  lt-irrefl,
+  lt-trans,
+  lt-of-not-le,
+  not-le-of-lt,
+  zero-lt-suc,
+  zero-mul,
+  le-of-eq,
+  lt-of-lt-of-le,
+  lt-of-le-of-lt,
+  mul-assoc,
+  mul-mul-mul-comm,
+  mul-pos,
+  mul-le-mul,
+  mul-le-mul-left,
+  mul-le-mul-right,
+  mul-lt-mul-of-pos-right,
+  lt-of-mul-lt-mul-right,
+  pow-succ',
 }
 use native.Mathlib.Omega.{arith}
 use native.Mathlib.Decide.{decLe, decLt}
 use mathlib.Core.Path.{_≡_, refl, sym, ap, _∙_}
-use mathlib.Core.Bool.{Bool, true, false}
+use mathlib.Core.Bool.{true, false}
 use lib.Dec.{T, lit<, lit≤}
 use lib.IntN.{ℤ}
 use lib.Pow.{pow-add, pow-pos, pow-mono}
@@ -29,7 +45,7 @@ use Rattle.ieee.proofs.Ops.{finite-inside}
 use Rattle.root.proofs.RootFloor.{floor-le, floor-lt, halves}
 use Rattle.root.proofs.RootPattern.{Signif, signif, around, rounded}
 use Rattle.root.proofs.RootDigits.{Ready, even-j, odd-j, normal-of}
-use Rattle.root.proofs.RootResults.{root-fits}
+use Rattle.root.proofs.RootResults.{root-fits, finite-of-value}
 
 record Nearest (X z : ℕ) : Type 0 where
   below : (m j : ℕ) → m < 2 ^ 53 → m * 2 ^ j < z → (m * 2 ^ j + z) * (m * 2 ^ j + z) < 4 * (X * 2 ^ 1074)
@@ -89,7 +105,8 @@ square-lt a b N P h l =
 square-up : (a b N P : ℕ) → 0 < P → b * P ≤ a → N < b * b → N * (P * P) < a * a
 square-up a b N P p h l = lt-of-lt-of-le (rw (mul-mul-mul-comm b P b P) (mul-lt-mul-of-pos-right l (mul-pos p p))) (mul-le-mul h h)
 
-under : (N R m j k : ℕ) → 2 ^ 106 ≤ N → Signif N R → m < 2 ^ 53 → m * 2 ^ j < R * 2 ^ k → (m * 2 ^ j + R * 2 ^ k) * (m * 2 ^ j + R * 2 ^ k) < N * (2 ^ k * 2 ^ k)
+under : (N R m j k : ℕ) → 2 ^ 106 ≤ N → Signif N R → m < 2 ^ 53 → m * 2 ^ j < R * 2 ^ k
+    → (m * 2 ^ j + R * 2 ^ k) * (m * 2 ^ j + R * 2 ^ k) < N * (2 ^ k * 2 ^ k)
 under N R m j k big s h l = go (decLt (2 ^ 52) R)
   where
     go : Dec (2 ^ 52 < R) → (m * 2 ^ j + R * 2 ^ k) * (m * 2 ^ j + R * 2 ^ k) < N * (2 ^ k * 2 ^ k)
@@ -123,7 +140,8 @@ found n M h lo hi H e =
     let N = M * 2 ^ 54 in
     let R = (floorRoot N + 1) / 2 in
     let s = signif M (floorRoot N) lo hi (floor-le N) (floor-lt N) in
-    let is : rootOf n ≡ odd 53 false R (h + 485) (low binary64) = rounded h (halves (n * 4 ^ 54)) R H (s .full) (s .short) (around n M (2 ^ h) R (pow-pos h) e lo hi s) in
+    let is : rootOf n ≡ odd 53 false R (h + 485) (low binary64) = rounded h (halves (n * 4 ^ 54)) R H (s .full) (s .short)
+    (around n M (2 ^ h) R (pow-pos h) e lo hi s) in
     let u = in-units n M h e in (
       R * 2 ^ (h + 485),
       rw is (odd-sign 53 false R (h + 485) (low binary64)),
@@ -190,11 +208,6 @@ less a b = let h : a - b ≤ 0 * 2 ^ 0 + a = omega arith in mul-le-mul h h
 under-zero : (Y N : ℕ) → 0 < N → (0 - Y) * (0 - Y) < 4 * N
 under-zero Y N p = let e : 0 - Y ≡ 0 = omega arith in rw e (omega arith)
 
-ends-of-value : (x : Float) (s : Bool) (n c : ℕ) → HasValue x s n c → T (finite x)
-ends-of-value nan s n c v = absurd v
-ends-of-value (inf t) s n c v = absurd v
-ends-of-value (fin t m e) s n c v = tt
-
 module _ (X z : ℕ) (p : 0 < X) (inside : X < 2 ^ 2098) (short : z < 2 ^ 2098) (near : Nearest X z) where
   below-it : (y : Float) → T (fits binary64 y) → T (isNum y) → mag binary64 y < z → (mag binary64 y + z) * (mag binary64 y + z) < 4 * (X * 2 ^ 1074)
   below-it nan h t l = absurd t
@@ -224,7 +237,7 @@ sqrt-nearest m e f =
     let p : 0 < X = some m X (up e) (down e) (2 ^ 1074) (u .cross) (up-pos e) (pow-pos 1074) in
     let r = at-place X (u .digits) (u .place) p (u .form) (u .few-digits) (u .inside) in
     let is : mag binary64 (rootOf X) ≡ r .0 = mag-of-value binary64 (rootOf X) false (r .0) (r .1) in
-    let ends : T (finite (rootOf X)) = ends-of-value (rootOf X) false (r .0) (2 ^ 1074) (r .1) in
+    let ends : T (finite (rootOf X)) = finite-of-value (rootOf X) false (r .0) (2 ^ 1074) (r .1) in
     let short : r .0 < 2 ^ 2098 = rw is at (finite-inside {f = binary64} {x = rootOf X} (record { held = root-fits X; ends = ends })) in
     record {
       held = root-fits X;

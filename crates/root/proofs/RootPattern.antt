@@ -1,4 +1,5 @@
--- From the integer root to the rounded one: the bit pattern that the code makes of q is the pattern of `rootOf`, and `sqrtOf` of a bit pattern is `rootOf` of its units.
+-- From the integer root to the rounded one: the bit pattern that the code makes of q is the pattern of `rootOf`, and `sqrtOf` of a bit pattern is `rootOf`
+-- of its units.
 use Prim.Native.Nat.{ℕ, zero, suc, _+_, _-_, _*_, _/_, _%_, _^_, _≤_, _<_}
 use native.Mathlib.Nat.{lt-of-lt-of-le, zero-mul, mul-assoc, mul-mul-mul-comm, mul-pos, mul-le-mul-right, mul-lt-mul-of-pos-right, mul-div-cancel}
 use native.Mathlib.Omega.{arith}
@@ -32,7 +33,8 @@ even-q : (M p : ℕ) → 2 ^ 53 ≤ 2 * p → 2 * p < 2 ^ 54 - 1 → 2 * p * (2 
 even-q M zero lo hi a b = absurd (omega arith)
 even-q M (suc p) lo hi a b = record { full = omega arith; short = omega arith; A = 2 * p + 1; next = omega arith; above = omega arith; below = omega arith }
 
-odd-q : (M p : ℕ) → 2 ^ 53 ≤ 2 * p + 1 → 2 * p + 1 < 2 ^ 54 - 1 → (2 * p + 1) * (2 * p + 1) ≤ M * 2 ^ 54 → M * 2 ^ 54 < (2 * p + 2) * (2 * p + 2) → Signif (M * 2 ^ 54) (p + 1)
+odd-q : (M p : ℕ) → 2 ^ 53 ≤ 2 * p + 1 → 2 * p + 1 < 2 ^ 54 - 1 → (2 * p + 1) * (2 * p + 1) ≤ M * 2 ^ 54 → M * 2 ^ 54 < (2 * p + 2) * (2 * p + 2)
+    → Signif (M * 2 ^ 54) (p + 1)
 odd-q M p lo hi a b =
     let no : (2 * p + 1) * (2 * p + 1) ≡ M * 2 ^ 54 → ⊥ = odd-square p M in
     record { full = omega arith; short = omega arith; A = 2 * p + 1; next = omega arith; above = omega arith; below = omega arith }
@@ -120,7 +122,8 @@ units-are R k P h l =
     ap (λ (b : Bool). cond b (odd 54 false R k (low binary64)) (inf false)) (is-true (ltb (R * 2 ^ k) (2 ^ 2098)) (lt→ltb (R * 2 ^ k) (2 ^ 2098) t))
     ∙ odd-more 53 false R k (low binary64) P h
 
-pub rounded : (h v R : ℕ) → h ≤ 1049 → 2 ^ 52 ≤ R → R < 2 ^ 53 → Around v (4 * 2 ^ h) R → round binary64 false v (2 ^ 592) ≡ odd 53 false R (h + 485) (low binary64)
+pub rounded : (h v R : ℕ) → h ≤ 1049 → 2 ^ 52 ≤ R → R < 2 ^ 53 → Around v (4 * 2 ^ h) R
+    → round binary64 false v (2 ^ 592) ≡ odd 53 false R (h + 485) (low binary64)
 rounded h v R H lo hi a =
     let k : size (v * 2 ^ 1074 / 2 ^ 592) - 53 ≡ h + 485 = ap (λ (z : ℕ). size z - 53) (shift v) ∙ ap (λ (z : ℕ). z - 53) (digits-of h v R a) ∙ omega arith in
     round-is binary64 false v (2 ^ 592)
@@ -134,8 +137,11 @@ pub pack : (n M h q : ℕ) → 2 ^ 52 ≤ M → M ≤ 2 ^ 54 - 2 → h ≤ 1049 
 unfolding rootOf
 pack n M h q lo hi H e a b =
     let s = signif M q lo hi a b in
-    let z = around n M (2 ^ h) ((q + 1) / 2) (pow-pos h) e lo hi s in
-    (omega arith, pattern-is (h + 485) ((q + 1) / 2) (omega arith) (s .full) (s .short) ∙ sym (rounded h (halves (n * 4 ^ 54)) ((q + 1) / 2) H (s .full) (s .short) z))
+    let z = around n M (2 ^ h) ((q + 1) / 2) (pow-pos h) e lo hi s in (
+      omega arith,
+      pattern-is (h + 485) ((q + 1) / 2) (omega arith) (s .full) (s .short) ∙ sym
+          (rounded h (halves (n * 4 ^ 54)) ((q + 1) / 2) H (s .full) (s .short) z),
+    )
 
 -- ---- `sqrtOf` by the units
 pub sqrt-units : (x : Float) (n : ℕ) → 0 < n → HasValue x false n (2 ^ low binary64) → sqrtOf x ≡ rootOf n
@@ -143,7 +149,8 @@ unfolding sqrtOf
 sqrt-units nan n p v = absurd v
 sqrt-units (inf s) n p v = absurd v
 sqrt-units (fin true m e) n p v = absurd (true≢false (v .0))
-sqrt-units (fin false zero e) n p v = absurd (let z : n * down e ≡ 0 = sym (v .1) ∙ ap (λ (x : ℕ). x * 2 ^ 1074) (zero-mul (up e)) ∙ zero-mul (2 ^ 1074) in let y : 0 < n * down e = mul-pos p (down-pos e) in omega arith)
+sqrt-units (fin false zero e) n p v = absurd (let z : n * down e ≡ 0 = sym (v .1) ∙ ap (λ (x : ℕ). x * 2 ^ 1074) (zero-mul (up e))
+    ∙ zero-mul (2 ^ 1074) in let y : 0 < n * down e = mul-pos p (down-pos e) in omega arith)
 sqrt-units (fin false (suc m) e) n p v = ap rootOf (ap (λ (z : ℕ). z / down e) (v .1) ∙ mul-div-cancel n (down-pos e))
 
 -- of a bit pattern that is read as q * 2 ^ k units

@@ -1,16 +1,24 @@
 -- The root of a value that is not negative is one too; where two values are equal but for the sign of a zero, so are their roots.
 use mathlib.Core.Path.{_≡_, refl}
 use Prim.Native.Nat.{ℕ, zero, suc, _+_, _*_, _^_}
-use mathlib.Core.Bool.{true, false, true≢false}
+use mathlib.Core.Bool.{Bool, true, false, true≢false}
 use lib.Dec.{T}
 use lib.Ieee.{Float, nan, inf, fin, binary64, fits}
+use lib.Ieee.Exact.{HasValue}
 use lib.Ieee.Fits.{round-fits}
+use lib.Ieee.Scale.{finite}
 use Rattle.ieee.specs.Units.{sign, isNum}
 use Rattle.ieee.specs.Flat.{flat, Alike}
 use Rattle.root.specs.Root.{floorRoot, sticky, rootOf, sqrtOf}
 use Rattle.ieee.proofs.Grid.{rounded}
 use Rattle.ieee.proofs.Sums.{Size}
 use Rattle.ieee.proofs.Alikes.{one}
+
+-- what has a value is finite
+pub finite-of-value : (x : Float) (s : Bool) (a c : ℕ) → HasValue x s a c → T (finite x)
+finite-of-value nan s a c v = absurd v
+finite-of-value (inf t) s a c v = absurd v
+finite-of-value (fin t m e) s a c v = tt
 
 pub root-fits : (n : ℕ) → T (fits binary64 (rootOf n))
 unfolding rootOf

@@ -54,7 +54,8 @@ closest-is v u R lo hi = go R lo hi (decLe (R * (2 * u)) v)
 
 -- ---- how many digits a number has
 pub size-is : (a n : ℕ) → 2 ^ a ≤ n → n < 2 ^ suc a → size n ≡ suc a
-size-is a n lo hi = le-antisymm (size-le n (suc a) hi) (lt-of-not-le (λ (g : size n ≤ a). lt-irrefl n (lt-of-lt-of-le (lt-of-lt-of-le (size-lt n) (pow-mono g)) lo)))
+size-is a n lo hi = le-antisymm (size-le n (suc a) hi)
+    (lt-of-not-le (λ (g : size n ≤ a). lt-irrefl n (lt-of-lt-of-le (lt-of-lt-of-le (size-lt n) (pow-mono g)) lo)))
 
 -- ---- a larger limit on the digits changes nothing
 zeros-more : (d n : ℕ) → 0 < n → n < 2 ^ d → trailingZeros (suc d) n ≡ trailingZeros d n
@@ -62,7 +63,8 @@ unfolding trailingZeros
 zeros-more zero n p h = omega arith
 zeros-more (suc d) n p h = go (n % 2) refl (zeros-more d (n / 2))
   where
-    go : (r : ℕ) → n % 2 ≡ r → (0 < n / 2 → n / 2 < 2 ^ d → trailingZeros (suc d) (n / 2) ≡ trailingZeros d (n / 2)) → under r (trailingZeros (suc d) (n / 2)) ≡ under r (trailingZeros d (n / 2))
+    go : (r : ℕ) → n % 2 ≡ r → (0 < n / 2 → n / 2 < 2 ^ d → trailingZeros (suc d) (n / 2) ≡ trailingZeros d (n / 2))
+        → under r (trailingZeros (suc d) (n / 2)) ≡ under r (trailingZeros d (n / 2))
     go zero e ih = ap suc (ih (omega arith) (omega arith))
     go (suc r) e ih = refl
 
@@ -74,7 +76,8 @@ odd-more d s (suc q) k l p h = ap (λ (t : ℕ). fin s (suc q / 2 ^ t) (minus (k
 -- ---- a normal value's bit pattern
 fields-are : (x t R : ℕ) → suc x < 2047 → 2 ^ 52 + t ≡ R → ofFields binary64 false (suc x) t ≡ odd 53 false R x (low binary64)
 unfolding ofFields
-fields-are x t R h e = cond-no (eqb (suc x) 2047) (cond (eqb t 0) (inf false) nan) (odd 53 false (2 ^ 52 + t) x (low binary64)) (not-T (eqb (suc x) 2047) (λ u. clash (suc x) h (eqb→eq (suc x) 2047 u))) ∙ ap (λ (z : ℕ). odd 53 false z x (low binary64)) e
+fields-are x t R h e = cond-no (eqb (suc x) 2047) (cond (eqb t 0) (inf false) nan) (odd 53 false (2 ^ 52 + t) x (low binary64))
+    (not-T (eqb (suc x) 2047) (λ u. clash (suc x) h (eqb→eq (suc x) 2047 u))) ∙ ap (λ (z : ℕ). odd 53 false z x (low binary64)) e
   where
     clash : (a : ℕ) → a < 2047 → a ≡ 2047 → ⊥
     clash a l z = omega arith
@@ -88,7 +91,8 @@ unfolding ofBits
 pattern-is x R h lo hi =
     let b = x * 4503599627370496 + R in
     let z = split-is x R b refl h lo hi in
-    ap (λ (s : Bool). ofFields binary64 s (b % top binary64 / hid binary64) (b % hid binary64)) (is-false (leb (top binary64) b) (lt→nleb (top binary64) b (z .0)))
+    ap (λ (s : Bool). ofFields binary64 s (b % top binary64 / hid binary64) (b % hid binary64))
+    (is-false (leb (top binary64) b) (lt→nleb (top binary64) b (z .0)))
     ∙ ap (λ (y : ℕ). ofFields binary64 false y (b % hid binary64)) (z .1)
     ∙ fields-are x (b % hid binary64) R (omega arith) (z .2)
 

@@ -1,4 +1,4 @@
--- What the inner functions of the root say to each other.
+-- Told between functions: how many digits the root's code starts from.
 use Prim.Native.Nat.{ℕ, _+_, _*_, _^_, _≤_, _<_}
 use mathlib.Core.Path.{_≡_}
 

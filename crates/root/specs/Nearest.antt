@@ -12,7 +12,8 @@ abbrev pub doubledSquared : Float → ℕ
 doubledSquared x = 4 * (mag binary64 x * 2 ^ 1074)
 
 -- r is a finite double, not negative, and every other double y is farther from the root of x than r is.
--- The mean of y and r tells it: y below r is farther where the mean is below the root, and y above r where it is above. Both sides are doubled and squared.
+-- The mean of y and r tells it: y below r is farther where the mean is below the root, and y above r where it is above. Both sides are
+-- doubled and squared.
 pub record NearestRoot (x r : Float) : Type 0 where
   pub held : T (fits binary64 r)
   pub ends : T (finite r)

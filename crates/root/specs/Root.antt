@@ -1,4 +1,5 @@
--- IEEE 754's square root of binary64, correctly rounded: first the root of a natural number cut to a whole one, then the double nearest to it.
+-- IEEE 754's square root of binary64, correctly rounded: first the root of a natural number cut to a whole one, then the double
+-- nearest to it.
 use Prim.Native.Nat.{ℕ, zero, suc, _+_, _*_, _/_, _^_}
 use mathlib.Core.Bool.{true, false, cond}
 use lib.Dec.{leb, eqb}
@@ -19,7 +20,8 @@ abbrev pub sticky : ℕ → ℕ → ℕ
 sticky n r = cond (eqb (r * r) n) 0 1
 
 -- The value of binary64 nearest to the root of n / 2 ^ 1074, a tie to the even one.
--- With N = n * 4 ^ 54 that root is √N / 2 ^ (537 + 54), and √N has at least 55 binary digits before its point, two more than binary64 keeps.
+-- With N = n * 4 ^ 54 that root is √N / 2 ^ (537 + 54), and √N has at least 55 binary digits before its point, two more than binary64
+-- keeps.
 -- So it rounds as the number 1/2 above its whole part does, or, where N is a square, as its whole part.
 unfoldable pub rootOf : ℕ → Float
 rootOf n = let r = floorRoot (n * 4 ^ 54) in round binary64 false (2 * r + sticky (n * 4 ^ 54) r) (2 ^ (537 + 54 + 1))

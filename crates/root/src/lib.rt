@@ -1,5 +1,6 @@
-// The square root, which IEEE 754 and Rust have for doubles and the language lacks. It answers for every double, a NaN and the infinities included.
-// Of a positive finite double it is found on bit patterns: an integer root by a guess that is tested, and the plain digit loop where the test fails.
+// The square root, which IEEE 754 and Rust have for doubles and the language lacks. It answers for every double, a NaN and the infinities
+// included. Of a positive finite double it is found on bit patterns: an integer root by a guess that is tested, and the plain digit loop
+// where the test fails.
 use std::num::wrapping_add_u64;
 use std::num::wrapping_sub_u64;
 use wide::excess;

@@ -2,7 +2,9 @@
 -- where two terms more do not carry into its upper word, that word is the next term.
 use Prim.Native.Nat.{ℕ, suc, _+_, _-_, _*_, _/_, _%_, _^_, _≤_, _<_, zero-le}
 use mathlib.Core.Path.{_≡_, refl, sym, ap, _∙_}
-use native.Mathlib.Nat.{le-trans, le-of-eq, le-antisymm, le-of-lt, le-of-mul-le-mul-right, le-of-suc-le-suc, lt-of-le-of-lt, lt-of-not-le, not-le-of-lt, add-le-add, mul-le-mul, mul-le-mul-left, mul-le-mul-right, div-add-mod', div-mul-le-self, lt-div-mul-add, le-div-iff-mul-le}
+use native.Mathlib.Nat.{le-trans, le-of-eq, le-antisymm, le-of-lt, le-of-mul-le-mul-right, le-of-suc-le-suc, lt-of-le-of-lt, lt-of-not-le}
+use native.Mathlib.Nat.{not-le-of-lt, add-le-add, mul-le-mul, mul-le-mul-left, mul-le-mul-right, div-add-mod', div-mul-le-self}
+use native.Mathlib.Nat.{lt-div-mul-add, le-div-iff-mul-le}
 use native.Mathlib.Omega.{arith}
 use lib.Bits.{bitOr, or-add-and, and-le-l, and-le-r}
 use lib.Dec.{lit<, lit≤}
@@ -65,7 +67,8 @@ module _ (t y d z g : ℕ) (p : 0 < d) (lo : y * d ≤ z * 64) (hi : z * 64 < (y
       le-antisymm not-above (go (t * 64 * z / 2 ^ 64) x)
     where
       go : (x : ℕ) → x < (g + 1) * d → x / d ≤ g
-      go x h = le-of-suc-le-suc (lt-of-not-le (λ (l : suc g ≤ x / d). not-le-of-lt h (le-trans (le-trans (le-of-eq (omega arith)) (mul-le-mul-right d l)) (div-mul-le-self x d))))
+      go x h = le-of-suc-le-suc (lt-of-not-le (λ (l : suc g ≤ x / d). not-le-of-lt h
+          (le-trans (le-trans (le-of-eq (omega arith)) (mul-le-mul-right d l)) (div-mul-le-self x d))))
 
 -- a doubt stays
 pub doubt-left : (a b : ℕ) → bitOr a b < 2 ^ 63 → a < 2 ^ 63
@@ -76,8 +79,12 @@ doubt-right a b h = omega (arith, or-add-and a b, and-le-l a b)
 
 -- ---- the turns
 
-pub turned : (z d y : ℕ) {g l : ℕ} {n : NearTerms} → 0 < d → (y * d ≤ z * 64) × (z * 64 < (y + 2) * d) → g ≡ n .terms .term * y / 2 ^ 64 → l ≡ n .terms .term * y % 2 ^ 64
-    → NearTurned z d n (record { terms = record { term = g; plus = n .terms .minus + g; minus = n .terms .plus }; doubt = bitOr (n .doubt) (l / 2 + n .terms .term) })
+pub turned : (z d y : ℕ) {g l : ℕ} {n : NearTerms} → 0 < d → (y * d ≤ z * 64) × (z * 64 < (y + 2) * d) → g ≡ n .terms .term * y / 2 ^ 64
+    → l ≡ n .terms .term * y % 2 ^ 64
+    → NearTurned z d n (record {
+      terms = record { term = g; plus = n .terms .minus + g; minus = n .terms .plus };
+      doubt = bitOr (n .doubt) (l / 2 + n .terms .term);
+    })
 turned z d y {g} {l} {n} p s e f = record {
   term-le = not-above (n .terms .term) y d z g p (s .0) (s .1) e;
   plus-is = refl;
@@ -126,7 +133,9 @@ near-ready {z} {n} k g l h a =
       record {
         divides = rw e (omega arith);
         term-fits = lt-of-le-of-lt (a .term-le) (term-small z h k (omega arith));
-        sum-fits = rw e (lt-of-le-of-lt (add-le-add (a .minus-le) (next-grows z (divisor k) (n .terms .term) (term z k) (divisor-pos k) (a .term-le))) (next-fits z k h l));
+        sum-fits = rw e (lt-of-le-of-lt
+            (add-le-add (a .minus-le) (next-grows z (divisor k) (n .terms .term) (term z k) (divisor-pos k) (a .term-le)))
+            (next-fits z k h l));
       },
       (rw e (omega arith), rw e (omega arith)),
     )

@@ -1,3 +1,3 @@
--- What the series' terms and sums are, and Turns, what its functions say within.
+-- What the series' terms and sums are; Turns is what its functions tell each other.
 pub mod Terms
 pub mod Turns

@@ -22,7 +22,7 @@ product-small x y h l = omega (arith, room-one x y 0 h l (omega arith))
 
 -- ---- the upper word
 upper-columns : (a₁ a₀ b₁ b₀ : ℕ)
-    → a₁ * b₁ + (a₁ * b₀ + a₀ * b₀ / 2 ^ 32) / 2 ^ 32 + (a₀ * b₁ + (a₁ * b₀ + a₀ * b₀ / 2 ^ 32) % 2 ^ 32) / 2 ^ 32 ≡ (a₁ * 2 ^ 32 + a₀) * (b₁ * 2 ^ 32 + b₀) / 2 ^ 64
+    → let c = a₁ * b₀ + a₀ * b₀ / 2 ^ 32 in a₁ * b₁ + c / 2 ^ 32 + (a₀ * b₁ + c % 2 ^ 32) / 2 ^ 32 ≡ (a₁ * 2 ^ 32 + a₀) * (b₁ * 2 ^ 32 + b₀) / 2 ^ 64
 upper-columns a₁ a₀ b₁ b₀ = omega arith
 
 pub upper-law : (u v : ℕ)
@@ -33,10 +33,12 @@ upper-law u v =
     ∙ (λ i. div-add-mod' u (2 ^ 32) i * div-add-mod' v (2 ^ 32) i / 2 ^ 64)
 
 -- ---- the lower word
-lower-columns : (a₁ a₀ b₁ b₀ : ℕ) → (a₀ * b₀ + (a₁ * b₀ % 2 ^ 32 + a₀ * b₁ % 2 ^ 32) * 2 ^ 32 % 2 ^ 64) % 2 ^ 64 ≡ (a₁ * 2 ^ 32 + a₀) * (b₁ * 2 ^ 32 + b₀) % 2 ^ 64
+lower-columns : (a₁ a₀ b₁ b₀ : ℕ)
+    → (a₀ * b₀ + (a₁ * b₀ % 2 ^ 32 + a₀ * b₁ % 2 ^ 32) * 2 ^ 32 % 2 ^ 64) % 2 ^ 64 ≡ (a₁ * 2 ^ 32 + a₀) * (b₁ * 2 ^ 32 + b₀) % 2 ^ 64
 lower-columns a₁ a₀ b₁ b₀ = omega arith
 
-pub lower-law : (u v : ℕ) → (u % 2 ^ 32 * (v % 2 ^ 32) + (u / 2 ^ 32 * (v % 2 ^ 32) % 2 ^ 32 + u % 2 ^ 32 * (v / 2 ^ 32) % 2 ^ 32) * 2 ^ 32 % 2 ^ 64) % 2 ^ 64 ≡ u * v % 2 ^ 64
+pub lower-law : (u v : ℕ)
+    → (u % 2 ^ 32 * (v % 2 ^ 32) + (u / 2 ^ 32 * (v % 2 ^ 32) % 2 ^ 32 + u % 2 ^ 32 * (v / 2 ^ 32) % 2 ^ 32) * 2 ^ 32 % 2 ^ 64) % 2 ^ 64 ≡ u * v % 2 ^ 64
 lower-law u v =
     lower-columns (u / 2 ^ 32) (u % 2 ^ 32) (v / 2 ^ 32) (v % 2 ^ 32)
     ∙ (λ i. div-add-mod' u (2 ^ 32) i * div-add-mod' v (2 ^ 32) i % 2 ^ 64)
@@ -59,7 +61,8 @@ byte-le true = omega arith
 byte-le false = omega arith
 
 -- where the upper words differ by the borrow, the difference is one word
-pub excess-law : (n₁ n₀ p₁ p₀ r : ℕ) → n₀ < 2 ^ 64 → p₀ < 2 ^ 64 → r < 2 ^ 64 → (r + p₀) % 2 ^ 64 ≡ n₀ → p₁ + boolByte (ltb n₀ p₀) ≡ n₁ → n₁ * 2 ^ 64 + n₀ ≡ p₁ * 2 ^ 64 + p₀ + r
+pub excess-law : (n₁ n₀ p₁ p₀ r : ℕ) → n₀ < 2 ^ 64 → p₀ < 2 ^ 64 → r < 2 ^ 64 → (r + p₀) % 2 ^ 64 ≡ n₀ → p₁ + boolByte (ltb n₀ p₀) ≡ n₁
+    → n₁ * 2 ^ 64 + n₀ ≡ p₁ * 2 ^ 64 + p₀ + r
 excess-law n₁ n₀ p₁ p₀ r a b c e = go (ltb n₀ p₀) (ltb→lt n₀ p₀) (nltb→le n₀ p₀)
   where
     go : (t : Bool) → (T t → n₀ < p₀) → (T (not t) → p₀ ≤ n₀) → p₁ + boolByte t ≡ n₁ → n₁ * 2 ^ 64 + n₀ ≡ p₁ * 2 ^ 64 + p₀ + r

@@ -20,7 +20,9 @@ up : (m e k : ℕ) → k ≤ e → m * 2 ^ (e - k) ≡ m * 2 ^ e / 2 ^ k
 up m e k h =
     let s : e ≡ (e - k) + k = omega arith in
     sym
-    (ap (λ (x : ℕ). m * 2 ^ x / 2 ^ k) s ∙ ap (λ (x : ℕ). m * x / 2 ^ k) (pow-add 2 (e - k) k) ∙ ap (λ (x : ℕ). x / 2 ^ k) (sym (mul-assoc m (2 ^ (e - k)) (2 ^ k)))
+    (ap (λ (x : ℕ). m * 2 ^ x / 2 ^ k) s
+    ∙ ap (λ (x : ℕ). m * x / 2 ^ k) (pow-add 2 (e - k) k)
+    ∙ ap (λ (x : ℕ). x / 2 ^ k) (sym (mul-assoc m (2 ^ (e - k)) (2 ^ k)))
     ∙ mul-div-cancel (m * 2 ^ (e - k)) (pow-pos k))
 
 add-m : tie.Need-add-m

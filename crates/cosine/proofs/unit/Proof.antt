@@ -16,7 +16,8 @@ two-51 : ofBits binary64 4836865999795912704 ≡ fin false 1 (pos 51)
 unfolding ofBits
 two-51 = refl
 
-limited : (c : tie.After-row-known) → c .before .if2 .kept ≡ min (c .before .before .before .args .plus + 2 ^ 51 - c .before .before .before .args .minus) (2 ^ 52)
+limited : (c : tie.After-row-known)
+    → c .before .if2 .kept ≡ min (c .before .before .before .args .plus + 2 ^ 51 - c .before .before .before .args .minus) (2 ^ 52)
 limited c =
     let s = c .before .before in
     kept (s .before .args .plus) (s .before .args .minus) (s .if1 .above) (c .before .if2 .kept)

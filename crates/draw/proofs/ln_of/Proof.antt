@@ -3,7 +3,8 @@ use borrow.Author.Needs.{needs}
 use mathlib.Core.Path.{ap, _∙_}
 use native.Mathlib.Omega.{arith}
 use Rattle.logarithm.specs.Logarithm.{lnOf}
-use Rattle.draw.proofs.Ready.{ln-ready}
+use Rattle.draw.proofs.Values.{draw-bits}
+use Rattle.draw.proofs.Uniforms.{output-drawn}
 use Rattle.draw.proofs.ln_of.Statement.{statement}
 use Rattle.draw.proofs.ln_of.Tie as tie
 
@@ -11,7 +12,7 @@ uniform-of-requires : tie.Need-uniform-of-requires
 uniform-of-requires c κs = search needs
 
 ln-requires : tie.Need-ln-requires
-ln-requires c κs = rw (c .uniform-of .ensures) (ln-ready (c .before .args .word) (omega arith))
+ln-requires c κs = rw (c .uniform-of .ensures) (draw-bits (output-drawn (c .before .args .word) (omega arith)))
 
 returns : tie.Need-returns
 returns c = c .ln .ensures ∙ ap lnOf (c .before .uniform-of .ensures)

@@ -1,4 +1,5 @@
--- `lent::two_gaussians` meets its contract: a walk of its code. The generator is made of the seed in the function's own memory, is lent for a draw and comes back, twice (`LentLocal.antt`), and the two values make the pair.
+-- `lent::two_gaussians` meets its contract: a walk of its code. The generator is made of the seed in the function's own memory, is lent for a draw and
+-- comes back, twice (`LentLocal.antt`), and the two values make the pair.
 -- All that is known of the draw in place is that it meets its contract.
 use mathlib.Core.Path.{refl}
 use Prim.Native.Nat.{ℕ, _<_, _^_}
@@ -16,7 +17,8 @@ use ghost.Atoms.{Atoms}
 use contract.Monad.{Fun}
 use contract.Running.{givenOf, tables, tablesOf}
 use types.Kit.{Given, ‵, _$_, _∵_, !, qed, by, move, keep, fjoin, suffices, done}
-use types.Run.{look, init, forget, stop, from, load, addr, and-then, no-more, assigns, land, returns, enter, alloc1, alloc0, params1, pass1, pass0, free1, free0}
+use types.Run.{look, init, forget, stop, from, load, addr, and-then, no-more, assigns, land, returns, enter, alloc1, alloc0, params1, pass1}
+use types.Run.{pass0, free1, free0}
 use types.Part.{agg}
 use sound.WpLaws.{FmC, fmOf, WpFn-mono}
 use denote.RattleType.{owns}
@@ -52,7 +54,8 @@ stayed = (stay-none (λ _. u64) yes, tt)
 abbrev Drew : ℕ → Type 0
 Drew = Came real gaussianOf afterGaussian
 
-module _ {M : Type 1} (𝓤 : URA M) (H : Heap 𝓤) (A : Atoms 𝓤) (W : Given 𝓤 H A) (at-mem : Memory → SProp 𝓤) (run : Routine → Fun 𝓤) (n : ℕ) (fits : n < 2 ^ 64) where
+module _ {M : Type 1} (𝓤 : URA M) (H : Heap 𝓤) (A : Atoms 𝓤) (W : Given 𝓤 H A) (at-mem : Memory → SProp 𝓤) (run : Routine → Fun 𝓤)
+    (n : ℕ) (fits : n < 2 ^ 64) where
   abbrev next : ℕ
   next = afterGaussian n
 
@@ -71,8 +74,10 @@ module _ {M : Type 1} (𝓤 : URA M) (H : Heap 𝓤) (A : Atoms 𝓤) (W : Given
 
   exits : Is P.the-row pair (pair-val ∷ []) → ent 𝓤 (emp 𝓤) (Post pair-val)
   exits is =
-      qed W [] ∵ suffices ! _ (ends-at 𝓤 H A two-gaussians.ended stayed (two-gaussians.clauses 𝓤 H A at-mem run) W ((tt, tt, tt, (n, tt), (vint w64 n ∷ [], tt)), tt) pair-val pair (tt, tt) (tt, tt)) $ says ! (refl, refl) $
-      owned ! P.the-row (Is P.the-row) ((LL.makes P.the-type P′.the-plain) 𝓤 H A) pair _ is $ owned ! u64 (Is u64) (uint-makes 𝓤 H A W w64) n _ (refl, fits) $ nothing ! $ move ! (1 ∷ 0 ∷ []) $ fjoin ! $ nothing ! $ done !
+      qed W [] ∵ suffices ! _ (ends-at 𝓤 H A two-gaussians.ended stayed (two-gaussians.clauses 𝓤 H A at-mem run) W
+      ((tt, tt, tt, (n, tt), (vint w64 n ∷ [], tt)), tt) pair-val pair (tt, tt) (tt, tt)) $ says ! (refl, refl) $
+      owned ! P.the-row (Is P.the-row) ((LL.makes P.the-type P′.the-plain) 𝓤 H A) pair _ is $ owned ! u64 (Is u64) (uint-makes 𝓤 H A W w64) n _ (refl, fits) $
+      nothing ! $ move ! (1 ∷ 0 ∷ []) $ fjoin ! $ nothing ! $ done !
 
   abbrev callee : Contract 𝓤
   callee = Draws real gaussianOf afterGaussian 𝓤 H A
@@ -81,28 +86,40 @@ module _ {M : Type 1} (𝓤 : URA M) (H : Heap 𝓤) (A : Atoms 𝓤) (W : Given
     walk : ent 𝓤 (onEntry 𝓤 H A two-gaussians.signature tt tt (n, tt) (vint w64 n ∷ [], tt)) (WpFn 𝓤 H C Λ code.function (vint w64 n ∷ []) Post)
     walk =
         qed W (‵ ftrue ∷ ‵ (owns (u64 ∷ []) (n, tt) (vint w64 n ∷ [], tt)) ∷ []) ∵ enter ! C Λ code.function (vint w64 n ∷ []) _ $
-        alloc1 ! (λ l₀. alloc1 ! (λ l₁. alloc1 ! (λ l₂. alloc1 ! (λ l₃. alloc1 ! (λ l₄. alloc1 ! (λ l₅. alloc1 ! (λ l₆. alloc0 ! $ params1 ! $ pass1 ! (init ! 10 refl (tt, record { fits = fits })) $ pass0 ! $
+        alloc1 ! (λ l₀. alloc1 ! (λ l₁. alloc1 ! (λ l₂. alloc1 ! (λ l₃. alloc1 ! (λ l₄. alloc1 ! (λ l₅. alloc1 ! (λ l₆. alloc0 ! $ params1 ! $
+        pass1 ! (init ! 10 refl (tt, record { fits = fits })) $ pass0 ! $
         -- [_6; …; _5; …; _4; …; _3; …; _2; …; _1; …; _0; …; true; what the seed owns]
-        assigns ! (agg ! (and-then ! (load ! (from ! (stop !)) (look ! 10 refl)) (no-more !))) (from ! (stop !)) (init ! 8 refl (tt, (record { fits = fits }, tt))) $
+        assigns ! (agg ! (and-then ! (load ! (from ! (stop !)) (look ! 10 refl)) (no-more !))) (from ! (stop !))
+        (init ! 8 refl (tt, (record { fits = fits }, tt))) $
         assigns ! (addr ! (from ! (stop !))) (from ! (stop !)) (init ! 2 refl (tt, tt)) $
-        move ! (8 ∷ []) $ lent-draw real gaussianOf afterGaussian ! fm known l₂ 0 n fits (λ ν δ. and-then ! (load ! (from ! (stop !)) (look ! 4 refl)) (no-more !)) (λ g.
+        move ! (8 ∷ []) $
+        lent-draw real gaussianOf afterGaussian ! fm known l₂ 0 n fits (λ ν δ. and-then ! (load ! (from ! (stop !)) (look ! 4 refl)) (no-more !)) (λ g.
         -- [_2; _6; …; _5; …; _4; …; _3; …; …; _1; …; _0; …; true; what the seed owns]
         land ! (from ! (stop !)) (init ! 7 refl (real .typed (gaussianOf n) (g .value-is))) $
         assigns ! (addr ! (from ! (stop !))) (from ! (stop !)) (init ! 1 refl (tt, tt)) $
-        lent-draw real gaussianOf afterGaussian ! fm known l₂ 0 next (g .state-fits) (λ ν δ. and-then ! (load ! (from ! (stop !)) (look ! 2 refl)) (no-more !)) (λ g′.
+        lent-draw real gaussianOf afterGaussian ! fm known l₂ 0 next (g .state-fits)
+        (λ ν δ. and-then ! (load ! (from ! (stop !)) (look ! 2 refl)) (no-more !)) (λ g′.
         land ! (from ! (stop !)) (init ! 5 refl (real .typed (gaussianOf next) (g′ .value-is))) $
-        assigns ! (agg ! (and-then ! (load ! (from ! (stop !)) (look ! 7 refl)) (and-then ! (load ! (from ! (stop !)) (look ! 5 refl)) (no-more !)))) (from ! (stop !)) (init ! 12 refl (LL.lawful P.the-type P′.the-laws 𝓤 H A W .typed pair _ (pair-is g g′) .0)) $
-        returns ! (look ! 12 refl) $ forget ! 0 refl $ forget ! 1 refl $ forget ! 3 refl $ forget ! 5 refl $ forget ! 7 refl $ forget ! 10 refl $ forget ! 12 refl $
-        move ! (12 ∷ 13 ∷ []) $ free1 ! $ move ! (10 ∷ 11 ∷ []) $ free1 ! $ move ! (0 ∷ 9 ∷ []) $ free1 ! $ move ! (6 ∷ 7 ∷ []) $ free1 ! $ move ! (4 ∷ 5 ∷ []) $ free1 ! $ move ! (2 ∷ 3 ∷ []) $ free1 ! $ free1 ! $ free0 ! $
+        assigns ! (agg ! (and-then ! (load ! (from ! (stop !)) (look ! 7 refl))
+        (and-then ! (load ! (from ! (stop !)) (look ! 5 refl)) (no-more !)))) (from ! (stop !))
+        (init ! 12 refl (LL.lawful P.the-type P′.the-laws 𝓤 H A W .typed pair _ (pair-is g g′) .0)) $
+        returns ! (look ! 12 refl) $ forget ! 0 refl $ forget ! 1 refl $ forget ! 3 refl $ forget ! 5 refl $ forget ! 7 refl $ forget ! 10 refl $
+        forget ! 12 refl $
+        move ! (12 ∷ 13 ∷ []) $ free1 ! $ move ! (10 ∷ 11 ∷ []) $ free1 ! $ move ! (0 ∷ 9 ∷ []) $ free1 ! $ move ! (6 ∷ 7 ∷ []) $ free1 ! $
+        move ! (4 ∷ 5 ∷ []) $ free1 ! $ move ! (2 ∷ 3 ∷ []) $ free1 ! $ free1 ! $ free0 ! $
         keep ! [] $ by ! (exits (pair-is g g′)))))))))))
 
-module _ {M : Type 1} (𝓤 : URA M) (H : Heap 𝓤) (A : Atoms 𝓤) (W : Given 𝓤 H A) (at-mem : Memory → SProp 𝓤) (run : Routine → Fun 𝓤) (𝓣 : Tables 𝓤 H) (known : Triple 𝓤 (𝓣 .C gaussian-def.name) (Draws real gaussianOf afterGaussian 𝓤 H A)) where
+module _ {M : Type 1} (𝓤 : URA M) (H : Heap 𝓤) (A : Atoms 𝓤) (W : Given 𝓤 H A) (at-mem : Memory → SProp 𝓤) (run : Routine → Fun 𝓤)
+    (𝓣 : Tables 𝓤 H) (known : Triple 𝓤 (𝓣 .C gaussian-def.name) (Draws real gaussianOf afterGaussian 𝓤 H A)) where
   walks : Walks 𝓤 H A two-gaussians.ended stayed (WpFn 𝓤 H (𝓣 .C) (𝓣 .Λ) code.function) (two-gaussians.clauses 𝓤 H A at-mem run)
-  walks = walked 𝓤 H A two-gaussians.ended stayed (two-gaussians.clauses 𝓤 H A at-mem run) (WpFn 𝓤 H (𝓣 .C) (𝓣 .Λ) code.function) (λ κs. (uint-vals w64, tt)) (λ κs. (uint-tells w64, tt))
+  walks = walked 𝓤 H A two-gaussians.ended stayed (two-gaussians.clauses 𝓤 H A at-mem run) (WpFn 𝓤 H (𝓣 .C) (𝓣 .Λ) code.function)
+      (λ κs. (uint-vals w64, tt)) (λ κs. (uint-tells w64, tt))
       (λ κs qs bounds a g are. via 𝓤 _ (fst∗ 𝓤 _ (emp 𝓤)) (walk 𝓤 H A W at-mem run (a .0) (are .0 .1) (𝓣 .C) (𝓣 .Λ) (fmOf 𝓤 H (W .laws) 𝓣) known))
 
   meets : Meets 𝓤 H A two-gaussians.signature (WpFn 𝓤 H (𝓣 .C) (𝓣 .Λ) code.function) (two-gaussians.spec 𝓤 H A at-mem run)
-  meets = walk-meets 𝓤 H A two-gaussians.ended stayed W (goes-none 𝓤 H A W 0 (λ _. u64) yes (λ κs x f. refl), tt) (two-gaussians.clauses 𝓤 H A at-mem run) (WpFn 𝓤 H (𝓣 .C) (𝓣 .Λ) code.function) (WpFn-mono 𝓤 H (W .laws) 𝓣 code.function) walks
+  meets = walk-meets 𝓤 H A two-gaussians.ended stayed W (goes-none 𝓤 H A W 0 (λ _. u64) yes (λ κs x f. refl), tt)
+      (two-gaussians.clauses 𝓤 H A at-mem run) (WpFn 𝓤 H (𝓣 .C) (𝓣 .Λ) code.function) (WpFn-mono 𝓤 H (W .laws) 𝓣 code.function)
+      walks
 
 pub two-gaussians-spec : {M : Type 1} → stated.statement M
 unfolding code.routine tablesOf
@@ -110,4 +127,5 @@ two-gaussians-spec 𝓤 H 𝓜 𝓖 𝓡 =
     entered 𝓤 H (tripleOf 𝓤 H (𝓖 .A) two-gaussians.signature (two-gaussians.spec 𝓤 H (𝓖 .A) (𝓜 .mem) (𝓡 .run)))
     (tables 𝓤 H 𝓜 𝓡 code.env .C) (tables 𝓤 H 𝓜 𝓡 code.env .Λ) #two-gaussians code.function (code.unfolded 𝓤 H 𝓜 𝓡)
     (meets 𝓤 H (𝓖 .A) (givenOf 𝓤 H 𝓜 𝓖) (𝓜 .mem) (𝓡 .run) (tablesOf 𝓤 H 𝓜 (tables 𝓤 H 𝓜 𝓡 code.env))
-    (cited 𝓤 H (tripleOf 𝓤 H (𝓖 .A) gaussian.signature (gaussian.spec 𝓤 H (𝓖 .A) (𝓜 .mem) (𝓡 .run))) 𝓜 𝓡 code.env gaussian-def.name gaussian-def.routine code.calls-lent·Generator·gaussian (gaussian-thm.met 𝓤 H 𝓜 𝓖 𝓡)))
+    (cited 𝓤 H (tripleOf 𝓤 H (𝓖 .A) gaussian.signature (gaussian.spec 𝓤 H (𝓖 .A) (𝓜 .mem) (𝓡 .run))) 𝓜 𝓡 code.env
+    gaussian-def.name gaussian-def.routine code.calls-lent·Generator·gaussian (gaussian-thm.met 𝓤 H 𝓜 𝓖 𝓡)))

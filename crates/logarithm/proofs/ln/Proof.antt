@@ -60,7 +60,8 @@ sub-depth c = rw (summed c) (never-below (toBits binary64 (c .before .before .ar
 int-to-float-result : tie.Need-int-to-float-result
 unfolding inFloat
 int-to-float-result c =
-    le→leb ((places (toBits binary64 (c .before .before .before .before .args .u)) * third - c .before .before .odd-sum .result) / 2 ^ 11) (2 ^ 53) (omega (arith, c .before .before .before .before .pre))
+    le→leb ((places (toBits binary64 (c .before .before .before .before .args .u)) * third - c .before .before .odd-sum .result) / 2
+    ^ 11) (2 ^ 53) (omega (arith, c .before .before .before .before .pre))
 
 returns : tie.Need-returns
 returns c = at-zero (toBits binary64 (c .before .before .before .args .u)) (sym (deep (c .before)) ∙ c .if1 .taken)

@@ -1,7 +1,8 @@
 -- `logarithm::long_division` meets its contract: after k steps of long division the quotient and the rest are those of f * 1024 ^ k.
 use Prim.Native.Nat.{ℕ, _+_, _-_, _*_, _/_, _%_, _^_, _≤_, _<_}
 use mathlib.Core.Path.{_≡_, sym, ap, _∙_}
-use native.Mathlib.Nat.{pow-suc, mul-one, mod-lt, mod-eq-of-lt, div-eq-of-lt, div-add-mod', mul-add-div-right, mul-add-mod-self-right, div-le-of-le-mul, mul-le-mul, pow-le-pow-right}
+use native.Mathlib.Nat.{pow-suc, mul-one, mod-lt, mod-eq-of-lt, div-eq-of-lt, div-add-mod', mul-add-div-right, mul-add-mod-self-right}
+use native.Mathlib.Nat.{div-le-of-le-mul, mul-le-mul, pow-le-pow-right}
 use native.Mathlib.Numerals.{add-one}
 use native.Mathlib.Omega.{arith}
 use lib.Dec.{lit<}
@@ -75,7 +76,8 @@ loop-again c =
     let f = c .before .before .args .f in (
       omega arith,
       divided c,
-      rw (c .before .loop .inv .2) (next-rest (f * 1024 ^ c .before .loop .k) (f + 2 ^ 53) ∙ ap (λ (x : ℕ). x % (f + 2 ^ 53)) (power-step f (c .before .loop .k))),
+      rw (c .before .loop .inv .2) (next-rest (f * 1024 ^ c .before .loop .k) (f + 2 ^ 53) ∙ ap (λ (x : ℕ). x % (f + 2 ^ 53))
+          (power-step f (c .before .loop .k))),
     )
 
 returns : tie.Need-returns Inv-loop μ-loop

@@ -11,8 +11,10 @@ small : (f r : ℕ) → f < 2 ^ 52 → r < f + 2 ^ 53 → r < 2 ^ 64 - 1
 small f r h l = omega arith
 
 -- the rest is exact where the test lets it through
-rest : (c : tie.After-excess) → c .excess .result < 2 ^ 64 - 1 → c .before .before .before .before .args .f * 2 ^ 50 ≡ c .before .before .before .near-ratio .result % 2 ^ 52 * (c .before .before .before .before .args .f + 2 ^ 53) + c .excess .result
-rest c l = rest-is _ _ (c .before .before .before .before .args .f + 2 ^ 53) _ _ _ (c .before .before .upper .ensures) (c .before .lower .ensures) (c .excess .ensures l)
+rest : (c : tie.After-excess) → c .excess .result < 2 ^ 64 - 1 → let at-guess = c .before .before .before in let f = at-guess .before .args .f in
+    f * 2 ^ 50 ≡ at-guess .near-ratio .result % 2 ^ 52 * (f + 2 ^ 53) + c .excess .result
+rest c l = rest-is _ _ (c .before .before .before .before .args .f + 2 ^ 53) _ _ _ (c .before .before .upper .ensures)
+    (c .before .lower .ensures) (c .excess .ensures l)
 
 add-den : tie.Need-add-den
 add-den c = search needs
@@ -27,7 +29,8 @@ lower-requires : tie.Need-lower-requires
 lower-requires c κs = search needs
 
 excess-requires : tie.Need-excess-requires
-excess-requires c κs = upper-small (c .before .before .near-ratio .result % 2 ^ 52) (c .before .before .before .args .f + 2 ^ 53) _ (omega arith) (omega (arith, c .before .before .before .pre)) (c .before .upper .ensures)
+excess-requires c κs = upper-small (c .before .before .near-ratio .result % 2 ^ 52) (c .before .before .before .args .f + 2 ^ 53)
+    _ (omega arith) (omega (arith, c .before .before .before .pre)) (c .before .upper .ensures)
 
 long-division-requires : tie.Need-long-division-requires
 long-division-requires c κs = search needs

@@ -8,7 +8,8 @@ use Rattle.root.proofs.digits.Statement.{statement}
 use Rattle.root.proofs.digits.Tie as tie
 
 -- the rest is exact where the test lets it through
-rest : (c : tie.After-excess) → c .excess .result < 2 ^ 64 - 1 → c .before .before .before .before .args .m * 2 ^ 54 ≡ c .before .before .before .near-root .result % 2 ^ 55 * (c .before .before .before .near-root .result % 2 ^ 55) + c .excess .result
+rest : (c : tie.After-excess) → c .excess .result < 2 ^ 64 - 1 → let at-guess = c .before .before .before in
+    let g = at-guess .near-root .result % 2 ^ 55 in at-guess .before .args .m * 2 ^ 54 ≡ g * g + c .excess .result
 rest c l = rest-is _ _ _ _ _ (c .before .before .upper .ensures) (c .before .lower .ensures) (c .excess .ensures l)
 
 near-root-requires : tie.Need-near-root-requires

@@ -9,7 +9,8 @@ use Rattle.root.proofs.RootPattern.{pack}
 use Rattle.root.proofs.scaled.Statement.{statement}
 use Rattle.root.proofs.scaled.Tie as tie
 
-ready : (c : tie.Joined1) → Ready (c .before .before .before .before .args .t) (c .before .before .before .before .args .k) (c .before .before .before .normal .result .j) (c .if1 .m)
+ready : (c : tie.Joined1)
+    → Ready (c .before .before .before .before .args .t) (c .before .before .before .before .args .k) (c .before .before .before .normal .result .j) (c .if1 .m)
 ready c =
     let a = c .before .before .before .normal .ensures in
     ⊎-elim (λ w. rw (w .1) (odd-j _ _ _ _ a (w .0 .taken))) (λ w. rw (w .1) (even-j _ _ _ _ a (w .0 .left))) (c .if1 .came)

@@ -24,7 +24,8 @@ float-to-bits-b : tie.Need-float-to-bits-b
 float-to-bits-b c = no-nan _ (over c)
 
 pattern-requires : tie.Need-pattern-requires
-pattern-requires c κs = let a = above-of (c .before .before .args .x) (held (c .before .before)) (over (c .before)) in (a .some, omega (arith, a .most, c .if2 .left))
+pattern-requires c κs = let a = above-of (c .before .before .args .x) (held (c .before .before)) (over (c .before)) in
+    (a .some, omega (arith, a .most, c .if2 .left))
 
 float-from-bits-result : tie.Need-float-from-bits-result
 float-from-bits-result c = no-nan-bits _ (c .pattern .ensures .0)

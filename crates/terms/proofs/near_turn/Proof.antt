@@ -29,7 +29,8 @@ add-t8 c =
     let s = c .before .before .before .before .share .ensures in
     fits-bits 64 tt
     (lt-of-le-of-lt
-    (add-le-add (le-refl (entry .args .n .terms .minus)) (not-above (entry .args .n .terms .term) _ (entry .args .d) (entry .args .z) _ (above _ (entry .pre .1 .0)) (s .0) (s .1) (c .before .before .before .upper .ensures)))
+    (add-le-add (le-refl (entry .args .n .terms .minus)) (not-above (entry .args .n .terms .term) _ (entry .args .d)
+    (entry .args .z) _ (above _ (entry .pre .1 .0)) (s .0) (s .1) (c .before .before .before .upper .ensures)))
     (entry .pre .0 .sum-fits))
 
 returns : tie.Need-returns

@@ -21,7 +21,8 @@ add-if1 : tie.Need-add-if1
 add-if1 c = fits-bits 64 tt (sum-small (c .before .pre) (byte-le (ltb (c .before .args .n0) (c .before .args .p0))))
 
 returns : tie.Need-returns
-returns c = λ l. excess-law _ _ _ _ _ (c .before .before .fits .n0 .fits) (c .before .before .fits .p0 .fits) (omega arith) (c .before .wrapping-sub-u64 .ensures) (c .if1 .taken)
+returns c = λ l. excess-law _ _ _ _ _ (c .before .before .fits .n0 .fits) (c .before .before .fits .p0 .fits) (omega arith)
+    (c .before .wrapping-sub-u64 .ensures) (c .if1 .taken)
 
 returns-2 : tie.Need-returns-2
 returns-2 c = search needs

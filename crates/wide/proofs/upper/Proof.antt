@@ -15,7 +15,8 @@ low n = omega arith
 
 -- the first column's sum
 first-small : (c : tie.Start) → c .args .u / 2 ^ 32 * (c .args .v % 2 ^ 32) + c .args .u % 2 ^ 32 * (c .args .v % 2 ^ 32) / 2 ^ 32 < 2 ^ 64
-first-small c = room-one (c .args .u / 2 ^ 32) (c .args .v % 2 ^ 32) _ (high (c .fits .u .fits)) (low (c .args .v)) (high (product-small (c .args .u % 2 ^ 32) (c .args .v % 2 ^ 32) (low (c .args .u)) (low (c .args .v))))
+first-small c = room-one (c .args .u / 2 ^ 32) (c .args .v % 2 ^ 32) _ (high (c .fits .u .fits)) (low (c .args .v))
+    (high (product-small (c .args .u % 2 ^ 32) (c .args .v % 2 ^ 32) (low (c .args .u)) (low (c .args .v))))
 
 -- the second column's, for any first one
 second-small : (c : tie.Start) (first : ℕ) → c .args .u % 2 ^ 32 * (c .args .v / 2 ^ 32) + first % 2 ^ 32 < 2 ^ 64
@@ -40,10 +41,12 @@ mul-result : tie.Need-mul-result
 mul-result c = fits-bits 64 tt (product-small (c .args .u / 2 ^ 32) (c .args .v / 2 ^ 32) (high (c .fits .u .fits)) (high (c .fits .v .fits)))
 
 add-result : tie.Need-add-result
-add-result c = fits-bits 64 tt (room-one (c .args .u / 2 ^ 32) (c .args .v / 2 ^ 32) _ (high (c .fits .u .fits)) (high (c .fits .v .fits)) (high (first-small c)))
+add-result c = fits-bits 64 tt (room-one (c .args .u / 2 ^ 32) (c .args .v / 2 ^ 32) _ (high (c .fits .u .fits))
+    (high (c .fits .v .fits)) (high (first-small c)))
 
 add-result-2 : tie.Need-add-result-2
-add-result-2 c = fits-bits 64 tt (room (c .args .u / 2 ^ 32) (c .args .v / 2 ^ 32) _ _ (high (c .fits .u .fits)) (high (c .fits .v .fits)) (high (first-small c)) (high (second-small c _)))
+add-result-2 c = fits-bits 64 tt (room (c .args .u / 2 ^ 32) (c .args .v / 2 ^ 32) _ _ (high (c .fits .u .fits))
+    (high (c .fits .v .fits)) (high (first-small c)) (high (second-small c _)))
 
 returns : tie.Need-returns
 returns c = upper-law (c .args .u) (c .args .v)

@@ -12,7 +12,9 @@ use Rattle.cosine.specs.Cosine.{cosOf, tau}
 use Rattle.logarithm.specs.Logarithm.{lnOf}
 use Rattle.draw.specs.Gaussian.{gaussianOf}
 use Rattle.cosine.proofs.Differences.{unit-is}
-use Rattle.draw.proofs.Ready.{ln-ready, cos-ready, output-lt}
+use Rattle.draw.proofs.Outputs.{output-lt}
+use Rattle.draw.proofs.Values.{draw-bits, angle-bits}
+use Rattle.draw.proofs.Uniforms.{output-drawn}
 use Rattle.draw.proofs.SplitMix64.gaussian.Statement.{statement}
 use Rattle.draw.proofs.SplitMix64.gaussian.Tie as tie
 
@@ -37,13 +39,13 @@ ln-requires : tie.Need-ln-requires
 ln-requires c κs =
     let first = c .before .before .before in
     let s = first .before .args .self .state in
-    rw (first .uniform .ensures .0) (ln-ready (outputOf s) (output-lt s))
+    rw (first .uniform .ensures .0) (draw-bits (output-drawn (outputOf s) (output-lt s)))
 
 cos-sums-requires : tie.Need-cos-sums-requires
 cos-sums-requires c κs =
     let drawn = c .before .before .before in
     let s = afterOf (drawn .before .before .before .args .self .state) in
-    rw (second drawn) (cos-ready (outputOf s) (output-lt s))
+    rw (second drawn) (angle-bits (output-drawn (outputOf s) (output-lt s)))
 
 sqrt-requires : tie.Need-sqrt-requires
 sqrt-requires c κs = search needs

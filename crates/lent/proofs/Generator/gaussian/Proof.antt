@@ -21,6 +21,9 @@ unfolding code.routine tablesOf
 gaussian-spec 𝓤 H 𝓜 𝓖 𝓡 =
     entered 𝓤 H (tripleOf 𝓤 H (𝓖 .A) gaussian.signature (gaussian.spec 𝓤 H (𝓖 .A) (𝓜 .mem) (𝓡 .run)))
     (tables 𝓤 H 𝓜 𝓡 code.env .C) (tables 𝓤 H 𝓜 𝓡 code.env .Λ) #gaussian code.function (code.unfolded 𝓤 H 𝓜 𝓡)
-    (moves real draw gaussianOf afterGaussian 𝓤 H (𝓖 .A) (givenOf 𝓤 H 𝓜 𝓖) (λ κs a r e. gaussian.clauses 𝓤 H (𝓖 .A) (𝓜 .mem) (𝓡 .run) κs a .ensures tt r e) (λ κs a. factI 𝓤 _ (emp 𝓤) (refl, refl))
+    (moves real draw gaussianOf afterGaussian 𝓤 H (𝓖 .A) (givenOf 𝓤 H 𝓜 𝓖)
+    (λ κs a r e. gaussian.clauses 𝓤 H (𝓖 .A) (𝓜 .mem) (𝓡 .run) κs a .ensures tt r e)
+    (λ κs a. factI 𝓤 _ (emp 𝓤) (refl, refl))
     (tablesOf 𝓤 H 𝓜 (tables 𝓤 H 𝓜 𝓡 code.env)) by-value-def.name
-    (cited 𝓤 H (tripleOf 𝓤 H (𝓖 .A) by-value.signature (by-value.spec 𝓤 H (𝓖 .A) (𝓜 .mem) (𝓡 .run))) 𝓜 𝓡 code.env by-value-def.name by-value-def.routine code.calls-draw·SplitMix64·gaussian (by-value-thm.met 𝓤 H 𝓜 𝓖 𝓡)))
+    (cited 𝓤 H (tripleOf 𝓤 H (𝓖 .A) by-value.signature (by-value.spec 𝓤 H (𝓖 .A) (𝓜 .mem) (𝓡 .run))) 𝓜 𝓡 code.env
+    by-value-def.name by-value-def.routine code.calls-draw·SplitMix64·gaussian (by-value-thm.met 𝓤 H 𝓜 𝓖 𝓡)))

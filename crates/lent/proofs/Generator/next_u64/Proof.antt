@@ -21,6 +21,9 @@ unfolding code.routine tablesOf
 next-u64-spec 𝓤 H 𝓜 𝓖 𝓡 =
     entered 𝓤 H (tripleOf 𝓤 H (𝓖 .A) next-u64.signature (next-u64.spec 𝓤 H (𝓖 .A) (𝓜 .mem) (𝓡 .run)))
     (tables 𝓤 H 𝓜 𝓡 code.env .C) (tables 𝓤 H 𝓜 𝓡 code.env .Λ) #next-u64 code.function (code.unfolded 𝓤 H 𝓜 𝓡)
-    (moves word output outputOf afterOf 𝓤 H (𝓖 .A) (givenOf 𝓤 H 𝓜 𝓖) (λ κs a r e. next-u64.clauses 𝓤 H (𝓖 .A) (𝓜 .mem) (𝓡 .run) κs a .ensures tt r e) (λ κs a. factI 𝓤 _ (emp 𝓤) (refl, refl))
+    (moves word output outputOf afterOf 𝓤 H (𝓖 .A) (givenOf 𝓤 H 𝓜 𝓖)
+    (λ κs a r e. next-u64.clauses 𝓤 H (𝓖 .A) (𝓜 .mem) (𝓡 .run) κs a .ensures tt r e)
+    (λ κs a. factI 𝓤 _ (emp 𝓤) (refl, refl))
     (tablesOf 𝓤 H 𝓜 (tables 𝓤 H 𝓜 𝓡 code.env)) by-value-def.name
-    (cited 𝓤 H (tripleOf 𝓤 H (𝓖 .A) by-value.signature (by-value.spec 𝓤 H (𝓖 .A) (𝓜 .mem) (𝓡 .run))) 𝓜 𝓡 code.env by-value-def.name by-value-def.routine code.calls-draw·SplitMix64·next-u64 (by-value-thm.met 𝓤 H 𝓜 𝓖 𝓡)))
+    (cited 𝓤 H (tripleOf 𝓤 H (𝓖 .A) by-value.signature (by-value.spec 𝓤 H (𝓖 .A) (𝓜 .mem) (𝓡 .run))) 𝓜 𝓡 code.env
+    by-value-def.name by-value-def.routine code.calls-draw·SplitMix64·next-u64 (by-value-thm.met 𝓤 H 𝓜 𝓖 𝓡)))
