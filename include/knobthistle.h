@@ -52,10 +52,12 @@ double knob_cos_draw(uint64_t word);
      indices: at least 8*(m+n+1) 32-bit numbers                 (KNOB_INDICES)
    An accepted call leaves all of both zero, whatever their length. Matrix and weights are never changed.
 
-   Each call answers a number: 0 accepted, else the lowest number below that applies and that the call uses (enum knob_number has names).
+   Each call answers a number: 0 accepted, else the first below that applies and that the call uses (enum knob_number has names).
+   The order is that of the tests: 12 stands between 1 and 2.
 
      no.  given exactly when                                                      sparsify  within  coloring  change, turned
-      1   the allowance is negative or a NaN (-0.0 and infinity are accepted)                  x
+      1   the allowance is negative or a NaN (-0.0 is accepted)                                x
+     12   the allowance is infinite (the largest finite one is accepted)                       x
       2   target or cap is 0                                                         x         x
       3   m > 256 or n > 4096                                                        x         x        x           x
       4   matrix, weights, second weights or output has another length               x         x        x           x
@@ -87,7 +89,8 @@ enum knob_number {
     KNOB_REFUSED_ENTRY = 7,
     KNOB_REFUSED_WEIGHT = 8,
     KNOB_REFUSED_SUM = 9,
-    KNOB_REFUSED_COLORING_ENTRY = 11
+    KNOB_REFUSED_COLORING_ENTRY = 11,
+    KNOB_REFUSED_INFINITE_ALLOWANCE = 12
 };
 
 #define KNOB_NUMBERS(m, n) ((size_t)(m) * ((size_t)(n) + 1) + (size_t)(m) * (size_t)(m) + 16 * (size_t)(m) + 8 * ((size_t)(n) + 1))

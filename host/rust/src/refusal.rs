@@ -3,11 +3,14 @@
 use std::error::Error;
 use std::fmt;
 
-/// Why a call was refused, by the numbers of include/knobthistle.h. Where several apply the lowest is given.
+/// Why a call was refused, by the numbers of include/knobthistle.h. Where several apply, the first
+/// in the order below is given.
 #[derive(Clone, Copy, Debug, PartialEq, Eq, Hash)]
 pub enum Refusal {
-    /// 1: the allowance is negative or a NaN. Minus zero and infinity are accepted.
+    /// 1: the allowance is negative or a NaN. Minus zero is accepted.
     Allowance = 1,
+    /// 12: the allowance is infinite. The largest finite one is accepted.
+    InfiniteAllowance = 12,
     /// 2: the target or the cap is 0.
     Zero = 2,
     /// 3: more than 256 columns or more than 4096 rows.
@@ -29,9 +32,10 @@ pub enum Refusal {
 }
 
 impl Refusal {
-    /// Every refusal, in the order of the numbers.
-    pub const ALL: [Refusal; 10] = [
+    /// Every refusal, in the order of the tests.
+    pub const ALL: [Refusal; 11] = [
         Refusal::Allowance,
+        Refusal::InfiniteAllowance,
         Refusal::Zero,
         Refusal::Size,
         Refusal::Length,
@@ -43,7 +47,7 @@ impl Refusal {
         Refusal::ColoringEntry,
     ];
 
-    /// The number, 1 to 11 but 10, which is used for nothing.
+    /// The number, 1 to 12 but 10, which is used for nothing.
     pub fn number(self) -> u64 {
         self as u64
     }
@@ -62,6 +66,7 @@ impl fmt::Display for Refusal {
     fn fmt(&self, f: &mut fmt::Formatter) -> fmt::Result {
         f.write_str(match self {
             Refusal::Allowance => "the allowed change is negative or not a number",
+            Refusal::InfiniteAllowance => "the allowed change is infinite",
             Refusal::Zero => "the target or the cap is 0",
             Refusal::Size => "there are more than 256 columns or more than 4096 rows",
             Refusal::Length => "the columns differ in length, or there is not one weight for each column",

@@ -169,7 +169,7 @@ fn the_cap_forces_passes() {
     assert!(capped.nonzeros <= 2 && capped.stage > free.stage && capped.change > 0.01);
     // A cap that is met from the start forces nothing.
     assert_eq!(still, of(0.0, None));
-    assert_eq!(of(f64::INFINITY, None).nonzeros, 1);
+    assert_eq!(of(f64::MAX, None).nonzeros, 1);
 }
 
 #[test]

@@ -35,8 +35,13 @@ fn allowance() {
         }
         assert_eq!(sparsify_within(&[], &[], allowance, None, 0), Err(Refusal::Allowance));
     }
-    for allowance in [0.0, -0.0, f64::INFINITY] {
+    for allowance in [0.0, -0.0, f64::MAX] {
         assert!(sparsify_within(&columns, &weights, allowance, None, 0).is_ok());
+    }
+    // Infinity comes after the other faults of an allowance and before everything else.
+    for cap in [None, Some(0), Some(1)] {
+        assert_eq!(sparsify_within(&columns, &weights, f64::INFINITY, cap, 0), Err(Refusal::InfiniteAllowance));
+        assert_eq!(sparsify_within(&[], &[f64::NAN], f64::INFINITY, cap, 0), Err(Refusal::InfiniteAllowance));
     }
 }
 
