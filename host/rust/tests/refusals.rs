@@ -18,8 +18,8 @@ fn both(columns: &[Vec<f64>], weights: &[f64]) -> Result<(), Refusal> {
 
 #[test]
 fn numbers_names_and_words() {
-    for (k, refusal) in Refusal::ALL.into_iter().enumerate() {
-        assert_eq!(refusal.number(), k as u64 + 1);
+    assert_eq!(Refusal::ALL.map(Refusal::number), [1, 12, 2, 3, 4, 5, 6, 7, 8, 9, 11]);
+    for refusal in Refusal::ALL {
         assert!(!refusal.to_string().is_empty());
         let error: Box<dyn std::error::Error> = refusal.into();
         assert_eq!(error.to_string(), refusal.to_string());
