@@ -1,0 +1,1 @@
+// Every step gets somewhere: the laws of a single step are in proofs/. Nothing here runs.
