@@ -8,6 +8,9 @@ use std::cell::Cell;
 pub struct Seen {
     pub froze_nothing: bool,
     pub nan: bool,
+    /// How many directions were drawn, and the largest entry of one.
+    pub directions: u64,
+    pub largest: f64,
 }
 
 /// The panic of a colouring that drew far more directions than one that freezes a coordinate a step can.
@@ -60,6 +63,14 @@ pub fn direction(frozen: usize, x: &[f64], ax: &[f64]) -> bool {
     }
     SIZE.set((columns, drawn + 1));
     false
+}
+
+/// A direction was projected, and zeroed at the frozen places.
+pub fn directed(g: &[f64]) {
+    let seen = SEEN.get();
+    let largest = g.iter().fold(seen.largest, |most, x| most.max(x.abs()));
+    SEEN.set(Seen { directions: seen.directions + 1, largest, ..seen });
+    numbers(g);
 }
 
 /// What is left of a phase may be rounded.
