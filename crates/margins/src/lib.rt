@@ -27,7 +27,7 @@ fn add_scaled(block: &mut [f64], column: &[f64], s: f64)
 }
 
 // The changes of the rows from `from` on, as many as the block holds.
-fn changes_into(
+pub fn changes_into(
     block: &mut [f64],
     from: usize,
     matrix: &[f64],
