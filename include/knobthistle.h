@@ -160,6 +160,21 @@ uint64_t knob_turned_words(const double *matrix, size_t matrix_length, size_t m,
 #define KNOB_SHEET_ANSWER 1342
 size_t knob_thin_sheet(const uint8_t *text, size_t text_length, uint8_t *answer, size_t answer_length);
 
+/* Which word moved: the change of every row when the weights before are replaced by after, both used as given. A change is signed: the
+   running sum of u (before - after) over the columns. rows[k] is the row that stands at place k by the magnitude of its change, from
+   the largest down, the smaller row first where two are equal, and changes[k] is its change; every row is there once, and the magnitude
+   of changes[0] is what knob_max_margin_change measures. rows and changes have exactly n places. Refusals 3, 4, 7, and 8, which here is
+   also given for a weight above 1 in magnitude; a refusal writes nothing. */
+uint64_t knob_moved(const double *matrix, size_t matrix_length, size_t m, size_t n,
+                    const double *before, size_t before_length, const double *after, size_t after_length,
+                    uint32_t *rows, size_t rows_length, double *changes, size_t changes_length);
+
+/* The same list, brought up to date: rows holds what an earlier call left there. It takes less time where few rows have changed places.
+   The result is that of knob_moved, whatever the lists held. */
+uint64_t knob_moved_again(const double *matrix, size_t matrix_length, size_t m, size_t n,
+                          const double *before, size_t before_length, const double *after, size_t after_length,
+                          uint32_t *rows, size_t rows_length, double *changes, size_t changes_length);
+
 #if defined(__aarch64__)
 /* On Arm the archive's calls write a record through an address, their first parameter, which is not how C returns one there. So the
    two are declared as they are, and each name then stands for a function of the form above. */

@@ -3,6 +3,8 @@ use discrepancy::discrepancy_coloring;
 use draw::SplitMix64;
 use margins::max_margin_change;
 use margins::turned_words;
+use moving::moved;
+use moving::moved_again;
 use rules::Cap;
 use sheet::thin_sheet;
 use sparsification::Answer;
@@ -19,6 +21,7 @@ ghost use Rattle.sparsification.specs.Answers.{Thinned};
 ghost use Rattle.rules.specs.declared.Rule.the-variants.{Target, Within};
 ghost use Rattle.margins.specs.Answers.{changeAnswer, turnedAnswer};
 ghost use Rattle.sheet.specs.Answer.{Answered};
+ghost use Rattle.moving.specs.Answers.{Listed};
 
 // The next uniform draw; the state moves on.
 #[no_mangle]
@@ -193,4 +196,40 @@ pub extern "C" fn knob_thin_sheet(text: &[u8], answer: &mut [u8]) -> usize
     ensures { λ r. ⌜ Answered (now (text .entry)) (now (answer .entry)) r (now (answer .exit)) ⌝ }
 {
     thin_sheet(text, answer)
+}
+
+// Which word moved: the rows by the magnitude of their changes, and the changes beside them.
+#[no_mangle]
+pub extern "C" fn knob_moved(
+    matrix: &[f64],
+    m: usize,
+    n: usize,
+    before: &[f64],
+    after: &[f64],
+    rows: &mut [u32],
+    changes: &mut [f64],
+) -> u64
+    ensures { λ r. ⌜ Listed
+        (now (matrix .entry)) m n (now (before .entry)) (now (after .entry)) (now (rows .entry)) (now (changes .entry))
+        r (now (rows .exit)) (now (changes .exit)) ⌝ }
+{
+    moved(matrix, m, n, before, after, rows, changes)
+}
+
+// The same list, brought up to date; the same whatever the lists held.
+#[no_mangle]
+pub extern "C" fn knob_moved_again(
+    matrix: &[f64],
+    m: usize,
+    n: usize,
+    before: &[f64],
+    after: &[f64],
+    rows: &mut [u32],
+    changes: &mut [f64],
+) -> u64
+    ensures { λ r. ⌜ Listed
+        (now (matrix .entry)) m n (now (before .entry)) (now (after .entry)) (now (rows .entry)) (now (changes .entry))
+        r (now (rows .exit)) (now (changes .exit)) ⌝ }
+{
+    moved_again(matrix, m, n, before, after, rows, changes)
 }

@@ -91,4 +91,34 @@ extern "C" {
         thresholds_length: usize,
         count: *mut u64,
     ) -> u64;
+
+    pub fn knob_moved(
+        matrix: *const f64,
+        matrix_length: usize,
+        m: usize,
+        n: usize,
+        before: *const f64,
+        before_length: usize,
+        after: *const f64,
+        after_length: usize,
+        rows: *mut u32,
+        rows_length: usize,
+        changes: *mut f64,
+        changes_length: usize,
+    ) -> u64;
+
+    pub fn knob_moved_again(
+        matrix: *const f64,
+        matrix_length: usize,
+        m: usize,
+        n: usize,
+        before: *const f64,
+        before_length: usize,
+        after: *const f64,
+        after_length: usize,
+        rows: *mut u32,
+        rows_length: usize,
+        changes: *mut f64,
+        changes_length: usize,
+    ) -> u64;
 }

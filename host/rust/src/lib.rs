@@ -55,6 +55,7 @@ mod archive;
 mod coloring;
 mod lent;
 mod margins;
+mod moving;
 mod refusal;
 pub mod sparsification;
 mod thinning;
@@ -62,6 +63,7 @@ mod thinning;
 pub use coloring::discrepancy_coloring;
 pub use lent::{MAX_COLUMNS, MAX_ROWS};
 pub use margins::{max_margin_change, turned_words};
+pub use moving::{moved, Moved};
 pub use refusal::Refusal;
 pub use thinning::{sparsify, sparsify_within, thin, Job, Rule, Thinned};
 
