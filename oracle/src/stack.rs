@@ -1,4 +1,4 @@
-// needs: knob_discrepancy_coloring knob_sparsify knob_sparsify_within knob_max_margin_change knob_turned_words knob_thin_sheet
+// needs: knob_discrepancy_coloring knob_sparsify knob_sparsify_within knob_max_margin_change knob_turned_words knob_thin_sheet knob_moved knob_moved_again
 //! The stack that each call uses, at the largest sizes: the stack below a call is painted before it, and what is left of the paint is
 //! counted after it. The lent scratch is all else that a call may use, so this is its whole memory. A sheet's call has its scratch on the
 //! stack too, and so may use twice as much.
@@ -11,6 +11,8 @@ mod coloring_call;
 mod margin_calls;
 #[path = "shared/matrices.rs"]
 mod matrices;
+#[path = "shared/moved_calls.rs"]
+mod moved_calls;
 #[path = "shared/tally.rs"]
 mod tally;
 #[path = "shared/thinning_calls.rs"]
@@ -115,6 +117,15 @@ fn all() -> Tally {
     let thresholds = vec![0.0; n];
     measure("turned_words", ALLOWED, &mut tally, || unsafe {
         margin_calls::knob_turned_words(lent, length, m, n, before, m, after, m, thresholds.as_ptr(), n, &mut 0)
+    });
+    let light: Vec<f64> = weights.iter().map(|w| w / 2.0).collect();
+    let (mut rows, mut changes) = (vec![7u32; n], vec![0.0; n]);
+    let (rows_at, changes_at) = (rows.as_mut_ptr(), changes.as_mut_ptr());
+    measure("moved", ALLOWED, &mut tally, || unsafe {
+        moved_calls::knob_moved(lent, length, m, n, light.as_ptr(), m, after, m, rows_at, n, changes_at, n)
+    });
+    measure("moved_again", ALLOWED, &mut tally, || unsafe {
+        moved_calls::knob_moved_again(lent, length, m, n, light.as_ptr(), m, light.as_ptr(), m, rows_at, n, changes_at, n)
     });
     let mut text = format!("thin\t32\t64\t{:016X}\ttarget\t1\n", 1);
     for _ in 0..32 {
