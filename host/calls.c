@@ -246,6 +246,42 @@ static void margins(void) {
     }
 }
 
+/* The changes of the four rows are -1, -0.8125, 1.375 and 0.8125; by hand. */
+static int listed(const uint32_t *rows, const double *changes) {
+    static const uint32_t order[] = {2, 0, 1, 3, 9};
+    static const double moved[] = {1.375, -1.0, -0.8125, 0.8125, 9.0};
+    return memcmp(rows, order, sizeof order) == 0 && memcmp(changes, moved, sizeof moved) == 0;
+}
+
+static void moved(void) {
+    static const double columns[] = {0.5, -1.0, 0.25, 1.0, 1.0, 0.5, -0.5, -0.25, -1.0, 0.75, 1.0, -0.5};
+    const double *matrix = matrix_room, *before = before_room, *after = after_room;
+    uint32_t rows[] = {9, 9, 9, 9, 9};
+    double changes[] = {9.0, 9.0, 9.0, 9.0, 9.0};
+    memcpy(matrix_room, columns, sizeof columns);
+    memcpy(before_room, (double[]){0.5, -0.25, 1.0}, 3 * sizeof(double));
+    memcpy(after_room, (double[]){-0.5, 0.5, 0.25}, 3 * sizeof(double));
+    { /* No two of these are equal, and then n is too large too: nothing is written. */
+        const size_t m = 257, matrix_length = 6, before_length = 7, after_length = 8, rows_length = 9, changes_length = 10;
+        const size_t n = 5;
+        hold("knob_moved, refused", CALL_knob_moved == KNOB_REFUSED_SIZE && rows[0] == 9 && changes[0] == 9.0);
+        hold("knob_moved_again, refused", CALL_knob_moved_again == KNOB_REFUSED_SIZE && rows[0] == 9 && changes[0] == 9.0);
+    }
+    {
+        const size_t m = 3, n = 4097, matrix_length = 6, before_length = 7, after_length = 8, rows_length = 9, changes_length = 10;
+        hold("knob_moved, too many rows", CALL_knob_moved == KNOB_REFUSED_SIZE && rows[0] == 9 && changes[0] == 9.0);
+        hold("knob_moved_again, too many rows", CALL_knob_moved_again == KNOB_REFUSED_SIZE && rows[0] == 9 && changes[0] == 9.0);
+    }
+    {
+        const size_t m = 3, n = 4, matrix_length = 12, before_length = 3, after_length = 3, rows_length = 4, changes_length = 4;
+        hold("knob_moved, its number", CALL_knob_moved == KNOB_ACCEPTED);
+        hold("knob_moved", listed(rows, changes));
+        rows[0] = rows[1] = 3;
+        hold("knob_moved_again, its number", CALL_knob_moved_again == KNOB_ACCEPTED);
+        hold("knob_moved_again", listed(rows, changes));
+    }
+}
+
 /* C2, as a sheet. */
 static void thin_sheet(void) {
     static const char sheet[] = "thin\t2\t2\t0000000000000000\twithin\t3FDFFFFFFFFFFFFF\t-\n"
@@ -267,6 +303,7 @@ int main(void) {
     sparsify_within();
     discrepancy_coloring();
     margins();
+    moved();
     thin_sheet();
     return wrong;
 }
