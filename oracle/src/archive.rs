@@ -63,14 +63,20 @@ fn line(job: &str) -> String {
     let e = Ensemble { matrix, m, n, weights, seed };
     let refused = refusal(&e, rule, m, usize::MAX, usize::MAX);
     if refused != 0 {
-        return format!("{refused}\t0\t0") + &"\t0000000000000000".repeat(1 + m);
+        return text(refused, 0, &[], 0, 0.0, &vec![0.0; m]);
     }
     let said = by_stages(&columns, &e, rule);
     assert!(said.agrees, "the original's own call gives other weights");
-    let mut text = format!("0\t{}\t{}\t{:016x}", said.stage, said.nonzeros, said.change.to_bits());
-    for w in said.weights {
-        text += &format!("\t{:016x}", w.to_bits());
-    }
+    text(0, said.stage, &said.path, said.nonzeros, said.change, &said.weights)
+}
+
+/// An answer, its path of nine places and its weights.
+fn text(number: u64, stage: u64, path: &[(u64, f64)], nonzeros: u64, change: f64, weights: &[f64]) -> String {
+    let place = |i: usize| path.get(i).copied().unwrap_or((0, 0.0));
+    let mut text = format!("{number}\t{stage}\t{nonzeros}\t{:016x}", change.to_bits());
+    (0..9).for_each(|i| text += &format!("\t{}", place(i).0));
+    (0..9).for_each(|i| text += &format!("\t{:016x}", place(i).1.to_bits()));
+    weights.iter().for_each(|w| text += &format!("\t{:016x}", w.to_bits()));
     text
 }
 

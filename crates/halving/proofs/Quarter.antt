@@ -135,3 +135,9 @@ module _ (z : Float) (u : ℕ → ℕ → Float) (n : ℕ) (h : Halved) where
       stays : (j : ℕ) → j < length (h .w) → T (isOn (passOf z u n h .w) j) → (t : Bool) → isOn twice j ≡ t → T t
       stays j l o true e = tt
       stays j l o false e = absurd (subst T (pass-off z u n h good j l e) o)
+
+  -- so at most half of all, rounded down
+  pub pass-half : 2 ≤ nonzeros (h .w) → sound (sum z u n h) ≡ true → 2 * nonzeros (passOf z u n h .w) ≤ nonzeros (h .w)
+  pass-half some good =
+      let a = pass-at-most some good in
+      omega arith

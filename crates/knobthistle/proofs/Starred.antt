@@ -25,8 +25,7 @@ use Rattle.stages.specs.Stages.{stageOf}
 use Rattle.stages.specs.Stopping.{rests, stops}
 use Rattle.rules.specs.Rules.{ruleFault}
 use Rattle.faults.specs.Faults.{sizeFault, valueFault, jobFault}
-use Rattle.sparsification.specs.Answers.{refusal, Thinned}
-use Rattle.sparsification.specs.Thinning.{answerAt}
+use Rattle.sparsification.specs.Answers.{refusal, answerAt, Thinned}
 use Rattle.sparsification.specs.declared.Answer.{Answer}
 use Rattle.rules.specs.declared.Cap.the-variants.{Absent, AtMost}
 use Rattle.rules.specs.declared.Rule.{Rule}
@@ -40,7 +39,8 @@ use Rattle.sparsification.proofs.Accepting.{values-good}
 use Rattle.stages.proofs.Passing.{normal-start}
 use Rattle.sparsification.proofs.DemandThree.{Doubles}
 use Rattle.sparsification.proofs.Settled.{stage-alone, settled}
-use Rattle.knobthistle.specs.Cases.{table, hold, half, underHalf, quarter, threeQuarters, one, minusOne, three, minusThree, four, smallest, matrix, by, any, thins, refuses, refusesRule, draws, uniform, Room, called, holds}
+use Rattle.knobthistle.specs.Cases.{table, hold, half, underHalf, quarter, threeQuarters, one, minusOne, three, minusThree, four, atOnce, oneLeft}
+use Rattle.knobthistle.specs.Cases.{smallest, matrix, by, any, thins, refuses, refusesRule, draws, uniform, Room, called, holds}
 
 abbrev columns : ℕ → ℕ → Float
 columns = columnsOf matrix 2
@@ -118,19 +118,20 @@ module _ (a b : Float) (start : List Float) (is : normalized plusZero (a ∷ b �
       (stop : (seed : ℕ) → Normal binary64 (length start) (at start) → FirstStop plusZero columns 2 start seed rule k × (stageOf plusZero columns 2 start seed k .w ≡ v)) where
     answers : (seed : ℕ) (output numbers : List Float) (indices : List ℕ) (r : Answer) (output' numbers' : List Float) (indices' : List ℕ)
         → Room 2 2 output numbers indices → Thinned rule seed matrix 2 2 (a ∷ b ∷ []) output numbers indices r output' numbers' indices'
-        → (r ≡ answerAt columns 2 start k v) × (output' ≡ v)
+        → (r ≡ answerAt columns 2 start seed k) × (output' ≡ v)
     answers seed output numbers indices r output' numbers' indices' room job =
         let s = stop seed normal-of in
         let f = fault-is rule a b output numbers indices ruled room ∙ sound in
         let t = settled job doubles f k (subst (λ x. FirstStop plusZero columns 2 x seed rule k) (sym is) (s .0)) in (
-          t .0 ∙ ap (λ x. answerAt columns 2 x k (stageOf plusZero columns 2 x seed k .w)) is ∙ ap (answerAt columns 2 start k) (s .1),
+          t .0 ∙ ap (λ x. answerAt columns 2 x seed k) is,
           t .1 ∙ ap (λ x. stageOf plusZero columns 2 x seed k .w) is ∙ s .1,
         )
 
-    called-so : {answer : Answer} → answerAt columns 2 start k v ≡ answer → called (a ∷ b ∷ []) (by rule) (λ output r output'. (r ≡ answer) × (output' ≡ v))
+    called-so : {answer : Answer} → ((seed : ℕ) → Normal binary64 (length start) (at start) → answerAt columns 2 start seed k ≡ answer)
+        → called (a ∷ b ∷ []) (by rule) (λ output r output'. (r ≡ answer) × (output' ≡ v))
     called-so e rule' seed output numbers indices r output' numbers' indices' c room job =
         let t = answers seed output numbers indices r output' numbers' indices' room (rw c at job) in
-        (t .0 ∙ e, t .1)
+        (t .0 ∙ e seed normal-of, t .1)
 
 at-0 : {start : List Float} {seed : ℕ} {rule : Rule} → stops plusZero columns 2 start seed rule 0 ≡ true → FirstStop plusZero columns 2 start seed rule 0
 at-0 h = record { there = h; before = λ i l. absurd (omega arith) }
@@ -188,13 +189,13 @@ module _ (seed : ℕ) (normal : Normal binary64 2 (at shares)) where
   stops-3 = rw next-13
 
 -- what stage 1 answers, and stage 0
-answer-13 : answerAt columns 2 shares 1 (plusZero ∷ one ∷ []) ≡ record { number = 0; stage = 1; nonzeros = 1; change = half }
-unfolding count ofBits ne maxChange changeTo maxAbsTo largerOf isNan lt sub mul add
-answer-13 = refl
+answer-13 : (seed : ℕ) → Normal binary64 2 (at shares) → answerAt columns 2 shares seed 1 ≡ oneLeft half
+unfolding tabulate count ofBits ne maxChange changeTo maxAbsTo largerOf isNan lt sub mul add
+answer-13 seed normal = rw (stage-0 shares seed, next-13 seed normal)
 
-answer-13-first : answerAt columns 2 shares 0 shares ≡ record { number = 0; stage = 0; nonzeros = 2; change = plusZero }
-unfolding count ofBits ne maxChange changeTo maxAbsTo largerOf isNan lt sub mul add
-answer-13-first = refl
+answer-13-first : (seed : ℕ) → Normal binary64 2 (at shares) → answerAt columns 2 shares seed 0 ≡ atOnce 2
+unfolding tabulate count ofBits ne maxChange changeTo maxAbsTo largerOf isNan lt sub mul add
+answer-13-first seed normal = rw (stage-0 shares seed)
 
 ruled-1 : ruleFault (Within half Absent) ≡ 0
 unfolding ofBits le lt eq
@@ -242,9 +243,9 @@ module _ (seed : ℕ) (normal : Normal binary64 2 (at halves)) where
   unfolding count ofBits ne
   stops-4 = rw next-11
 
-answer-11 : answerAt columns 2 halves 1 (one ∷ plusZero ∷ []) ≡ record { number = 0; stage = 1; nonzeros = 1; change = one }
-unfolding count ofBits ne maxChange changeTo maxAbsTo largerOf isNan lt sub mul add
-answer-11 = refl
+answer-11 : (seed : ℕ) → Normal binary64 2 (at halves) → answerAt columns 2 halves seed 1 ≡ oneLeft one
+unfolding tabulate count ofBits ne maxChange changeTo maxAbsTo largerOf isNan lt sub mul add
+answer-11 seed normal = rw (stage-0 halves seed, next-11 seed normal)
 
 -- ---- C5: weights -3 and 1
 
@@ -283,9 +284,9 @@ module _ (seed : ℕ) (normal : Normal binary64 2 (at signed)) where
   unfolding count ofBits ne
   stops-5 = rw next-31
 
-answer-31 : answerAt columns 2 signed 1 (minusOne ∷ plusZero ∷ []) ≡ record { number = 0; stage = 1; nonzeros = 1; change = half }
-unfolding count ofBits ne maxChange changeTo maxAbsTo largerOf isNan lt sub mul add
-answer-31 = refl
+answer-31 : (seed : ℕ) → Normal binary64 2 (at signed) → answerAt columns 2 signed seed 1 ≡ oneLeft half
+unfolding tabulate count ofBits ne maxChange changeTo maxAbsTo largerOf isNan lt sub mul add
+answer-31 seed normal = rw (stage-0 signed seed, next-31 seed normal)
 
 -- ---- C6: weights 4 and the smallest subnormal
 
@@ -308,11 +309,11 @@ lonely-one : (seed : ℕ) → nonzeros (stageOf plusZero columns 2 lonely seed 0
 unfolding stageOf count ofBits ne
 lonely-one seed = refl
 
-answer-tiny : answerAt columns 2 lonely 0 lonely ≡ record { number = 0; stage = 0; nonzeros = 1; change = plusZero }
-unfolding count ofBits ne maxChange changeTo maxAbsTo largerOf isNan lt sub mul add
-answer-tiny = refl
+answer-tiny : (seed : ℕ) → Normal binary64 2 (at lonely) → answerAt columns 2 lonely seed 0 ≡ atOnce 1
+unfolding tabulate count ofBits ne maxChange changeTo maxAbsTo largerOf isNan lt sub mul add
+answer-tiny seed normal = rw (stage-0 lonely seed)
 
-case-6 : holds (thins (four ∷ smallest ∷ []) any (record { number = 0; stage = 0; nonzeros = 1; change = plusZero }) lonely)
+case-6 : holds (thins (four ∷ smallest ∷ []) any (atOnce 1) lonely)
 case-6 rule seed output numbers indices r output' numbers' indices' c =
     called-so four smallest lonely start-tiny doubles-tiny sound-tiny rule 0 lonely c
     (λ s n. (at-0 (first-holds (rests plusZero columns 2 lonely s rule 0) _ (few-rests plusZero columns 2 lonely s rule 0 c (omega (arith, lonely-one s)))), stage-0 lonely s))

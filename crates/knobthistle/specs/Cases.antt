@@ -6,6 +6,7 @@ use mathlib.Core.List.{List, [], _∷_}
 use lib.Dec.{T}
 use lib.ListN.{length}
 use lib.Ieee.{Float, nan, binary64, ofBits}
+use Rattle.seq.specs.Lists.{repeated}
 use Rattle.seq.specs.Sums.{plusZero}
 use Rattle.draw.specs.SplitMix.{outputOf, afterOf}
 use Rattle.draw.specs.Uniform.{uniformOf}
@@ -81,20 +82,44 @@ smallest = ofBits binary64 1
 abbrev pub matrix : List Float
 matrix = one ∷ one ∷ one ∷ minusOne ∷ []
 
+-- the answer with stage 0, where k are nonzero
+abbrev pub atOnce : ℕ → Answer
+atOnce k =
+    record {
+      number = 0;
+      stage = 0;
+      nonzeros = k;
+      change = plusZero;
+      «path_nonzeros» = k ∷ repeated 0 8;
+      «path_change» = repeated plusZero 9;
+    }
+
+-- the answer with stage 1, where one of two is left and a margin has changed by so much
+abbrev pub oneLeft : Float → Answer
+oneLeft change =
+    record {
+      number = 0;
+      stage = 1;
+      nonzeros = 1;
+      change = change;
+      «path_nonzeros» = 2 ∷ 1 ∷ repeated 0 7;
+      «path_change» = plusZero ∷ change ∷ repeated plusZero 7;
+    }
+
 abbrev pub table : List Row
 table =
     -- C1, the sheet: weights 1 and 3, allowance 0.5, no cap
-    record { number = 1; claim = thins (one ∷ three ∷ []) (by (Within half Absent)) (record { number = 0; stage = 1; nonzeros = 1; change = half }) (plusZero ∷ one ∷ []) }
+    record { number = 1; claim = thins (one ∷ three ∷ []) (by (Within half Absent)) (oneLeft half) (plusZero ∷ one ∷ []) }
     -- C2, an allowance just below 0.5: the normalized weights
-    ∷ record { number = 2; claim = thins (one ∷ three ∷ []) (by (Within underHalf Absent)) (record { number = 0; stage = 0; nonzeros = 2; change = plusZero }) (quarter ∷ threeQuarters ∷ []) }
+    ∷ record { number = 2; claim = thins (one ∷ three ∷ []) (by (Within underHalf Absent)) (atOnce 2) (quarter ∷ threeQuarters ∷ []) }
     -- C3, allowance 0 and cap 1: as C1
-    ∷ record { number = 3; claim = thins (one ∷ three ∷ []) (by (Within plusZero (AtMost 1))) (record { number = 0; stage = 1; nonzeros = 1; change = half }) (plusZero ∷ one ∷ []) }
+    ∷ record { number = 3; claim = thins (one ∷ three ∷ []) (by (Within plusZero (AtMost 1))) (oneLeft half) (plusZero ∷ one ∷ []) }
     -- C4, equal weights: the first is left
-    ∷ record { number = 4; claim = thins (one ∷ one ∷ []) (by (Target 1)) (record { number = 0; stage = 1; nonzeros = 1; change = one }) (one ∷ plusZero ∷ []) }
+    ∷ record { number = 4; claim = thins (one ∷ one ∷ []) (by (Target 1)) (oneLeft one) (one ∷ plusZero ∷ []) }
     -- C5, a negative weight keeps its sign
-    ∷ record { number = 5; claim = thins (minusThree ∷ one ∷ []) (by (Target 1)) (record { number = 0; stage = 1; nonzeros = 1; change = half }) (minusOne ∷ plusZero ∷ []) }
+    ∷ record { number = 5; claim = thins (minusThree ∷ one ∷ []) (by (Target 1)) (oneLeft half) (minusOne ∷ plusZero ∷ []) }
     -- C6, a weight that underflows at stage 0, by every rule
-    ∷ record { number = 6; claim = thins (four ∷ smallest ∷ []) any (record { number = 0; stage = 0; nonzeros = 1; change = plusZero }) (one ∷ plusZero ∷ []) }
+    ∷ record { number = 6; claim = thins (four ∷ smallest ∷ []) any (atOnce 1) (one ∷ plusZero ∷ []) }
     -- C7, no weight, by every rule
     ∷ record { number = 7; claim = refuses (plusZero ∷ plusZero ∷ []) any 9 }
     -- C10, the state that becomes 0: output 0, uniform 2 ^ -54

@@ -1,4 +1,4 @@
-// What the programs print: text, the bits of a double, weights, an answer.
+// What the programs print: text, the bits of a double, weights, an answer and its path.
 use sparsification::Answer;
 
 // A text.
@@ -39,4 +39,22 @@ pub fn print_weights(w: &[f64]) {
         print_bits(w[j]);
         j += 1;
     }
+}
+
+// Counts, a tab before each.
+pub fn print_counts(k: &[u64]) {
+    let mut i = 0usize;
+    while i < k.len() {
+        tab();
+        io::print_decimal(1, k[i]);
+        i += 1;
+    }
+}
+
+// The path of an answer: the nonzero entries of its stages and then their changes, a tab before each.
+pub fn print_path(a: Answer) {
+    let nonzeros = a.path_nonzeros;
+    let change = a.path_change;
+    print_counts(&nonzeros[..]);
+    print_weights(&change[..]);
 }

@@ -15,10 +15,9 @@ use Rattle.seq.specs.Sums.{plusZero, at}
 use Rattle.limits.specs.Limits.{tooLarge, scratchShort, numbersNeeded, indicesNeeded, bounded}
 use Rattle.seq.specs.Keep.{allTo}
 use Rattle.ieee.specs.Constants.{one}
-use Rattle.weights.specs.Weights.{nonzeros, normalized, l1Of, sound}
+use Rattle.weights.specs.Weights.{normalized, l1Of, sound}
 use Rattle.limits.specs.Matrix.{columnsOf}
-use Rattle.stages.specs.Stages.{movedBy}
-use Rattle.sparsification.specs.Answers.{refusal, answerOf, stopFor, returned, Thinned}
+use Rattle.sparsification.specs.Answers.{refusal, answerAt, answerOf, stopFor, returned, Thinned}
 use Rattle.rules.specs.Rules.{ruleFault}
 use Rattle.faults.specs.Faults.{sizeFault, valueFault, jobFault}
 use Rattle.sparsification.specs.declared.Answer.{Answer}
@@ -54,12 +53,7 @@ module _ {rule : Rule} {seed : ℕ} {u : List Float} {m n : ℕ} {w output numbe
 
   -- the answer and the output then
   pub answer-stage : jobFault rule u m n w (length output) (length numbers) (length indices) ≡ 0
-      → r ≡ record {
-        number = 0;
-        stage = stopFor u n w seed rule;
-        nonzeros = nonzeros (returned u n w seed rule .w);
-        change = movedBy (columnsOf u n) n (normalized plusZero w) (returned u n w seed rule);
-      }
+      → r ≡ answerAt (columnsOf u n) n (normalized plusZero w) seed (stopFor u n w seed rule)
   unfolding answerOf
   answer-stage f = answer-there f
 

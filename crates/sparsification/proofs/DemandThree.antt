@@ -13,11 +13,9 @@ use Rattle.seq.specs.Sums.{plusZero, at}
 use Rattle.limits.specs.Matrix.{columnsOf}
 use Rattle.ieee.proofs.Normalised.{Normal}
 use Rattle.weights.specs.Weights.{normalized}
-use Rattle.stages.specs.Stages.{stageOf}
 use Rattle.stages.specs.Stopping.{stopOf}
 use Rattle.rules.specs.Rules.{ruleFault}
-use Rattle.sparsification.specs.Answers.{stopFor, Thinned}
-use Rattle.sparsification.specs.Thinning.{answerAt}
+use Rattle.sparsification.specs.Answers.{answerAt, stopFor, Thinned}
 use Rattle.sparsification.specs.Demand.{allows, keeps, Later}
 use Rattle.sparsification.specs.declared.Answer.{Answer}
 use Rattle.rules.specs.declared.Cap.the-variants.{Absent, AtMost}
@@ -36,7 +34,7 @@ Doubles w = (j : ℕ) → T (fits binary64 (at w j))
 -- what the rule asks for, of the stage at which it stops
 module _ (u : ℕ → ℕ → Float) (n : ℕ) (start : List Float) (seed : ℕ) (normal : Normal binary64 (length start) (at start)) (few : length start ≤ 256) where
   pub kept-there : (rule : Rule) → ruleFault rule ≡ 0
-      → keeps rule (answerAt u n start (stopOf plusZero u n start seed rule) (stageOf plusZero u n start seed (stopOf plusZero u n start seed rule) .w)) ≡ true
+      → keeps rule (answerAt u n start seed (stopOf plusZero u n start seed rule)) ≡ true
   kept-there (Target t) f = target-kept plusZero u n start seed (falling u n start seed normal few) t f
   kept-there (Within a Absent) f = allowance-kept plusZero u n start seed (falling u n start seed normal few) a f (λ j l. normal .ends j l .ends)
   kept-there (Within a (AtMost c)) f = cap-kept plusZero u n start seed (falling u n start seed normal few) a c f

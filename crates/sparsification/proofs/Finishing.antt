@@ -7,7 +7,7 @@ use native.Mathlib.Omega.{arith}
 use native.Mathlib.Nat.{mul-le-mul-right}
 use lib.Dec.{eqb}
 use lib.ListN.{length}
-use lib.Ieee.{Float, binary64, le}
+use lib.Ieee.{Float, nan, binary64, le}
 use borrow.Author.Tests.{ne-eqb}
 use Rattle.seq.specs.Lists.{repeated}
 use Rattle.seq.specs.Sums.{plusZero, at}
@@ -18,33 +18,35 @@ use Rattle.limits.specs.Matrix.{columnsOf}
 use Rattle.limits.specs.Limits.{bounded}
 use Rattle.seq.specs.Keep.{allTo}
 use Rattle.ieee.specs.Constants.{one}
-use Rattle.margins.specs.Margins.{maxChange}
-use Rattle.weights.specs.Weights.{nonzeros, normalized}
+use Rattle.weights.specs.Weights.{normalized}
 use Rattle.halve.specs.Handed.{Ready}
 use Rattle.seq.proofs.Choosing.{holds, both-hold}
-use Rattle.stages.specs.Stopping.{stopOf}
-use Rattle.stages.specs.Paths.{Followed}
+use Rattle.stages.specs.Stages.{stageOf, movedBy}
+use Rattle.stages.specs.Stopping.{entriesAt, stopOf}
+use Rattle.stages.specs.Paths.{Noted, Followed}
+use Rattle.stages.specs.declared.Path.{Path}
+use Rattle.stages.proofs.Following.{path-at}
 use Rattle.faults.specs.Faults.{jobFault}
-use Rattle.sparsification.specs.Answers.{refusal, answerOf, Thinned}
-use Rattle.sparsification.specs.Thinning.{answerAt, ThinnedFrom}
+use Rattle.sparsification.specs.Answers.{refusal, answerAt, answerOf, Thinned}
+use Rattle.sparsification.specs.Thinning.{answerFor, ThinnedFrom}
 use Rattle.sparsification.specs.declared.Answer.{Answer}
 use Rattle.rules.specs.declared.Rule.{Rule}
 use Rattle.sparsification.proofs.Accepting.{Sized}
 
--- the answer
-pub answer-is : (u : ℕ → ℕ → Float) (n : ℕ) (start : List Float) (stage : ℕ) (w : List Float) (k : ℕ) (x : Float)
-    → k ≡ nonzeros w → x ≡ maxChange u (length start) n start w
-    → _≡_ {A = Answer} (record { number = 0; stage = stage; nonzeros = k; change = x }) (answerAt u n start stage w)
-answer-is u n start stage w k x e f = rw (e, f)
+-- the answer for the end of a path is that for its stage
+answer-noted : (u : ℕ → ℕ → Float) (n : ℕ) (start : List Float) (seed k : ℕ) (p : Path) → Noted u n start seed k p → answerFor p ≡ answerAt u n start seed k
+answer-noted u n start seed k p q =
+    rw (q .stage, q .nonzeros, q .change, path-at 0 (entriesAt plusZero u n start seed) k k 0 (omega arith))
+    (rw (path-at plusZero (λ i. movedBy u n start (stageOf plusZero u n start seed i)) k k nan (omega arith)))
 
 -- a job from normalized weights: the stages were followed from a copy of them
-pub done-from : (u : ℕ → ℕ → Float) (n : ℕ) (start : List Float) (seed : ℕ) (rule : Rule) {copy output' : List Float} {reached : ℕ} → copy ≡ start
-    → Followed u n copy seed rule reached output' → (numbers numbers' : List Float) (indices indices' : List ℕ) (r : Answer)
-    → r ≡ answerAt u n start reached output' → numbers' ≡ repeated plusZero (length numbers) → indices' ≡ repeated 0 (length indices)
+pub done-from : (u : ℕ → ℕ → Float) (n : ℕ) (start : List Float) (seed : ℕ) (rule : Rule) {copy output' : List Float} {p : Path} → copy ≡ start
+    → Followed u n copy seed rule p output' → (numbers numbers' : List Float) (indices indices' : List ℕ) (r : Answer)
+    → r ≡ answerFor p → numbers' ≡ repeated plusZero (length numbers) → indices' ≡ repeated 0 (length indices)
     → ThinnedFrom u n start seed rule numbers indices r output' numbers' indices'
-done-from u n start seed rule {copy} {output'} {reached} copied follows numbers numbers' indices indices' r a N I =
-    let f : Followed u n start seed rule reached output' = rw copied at follows in
-    record { answers = a ∙ ap (λ (k : ℕ). answerAt u n start k output') (f .stage); writes = f .weights; floats = N; words = I }
+done-from u n start seed rule {copy} {output'} {p} copied follows numbers numbers' indices indices' r a N I =
+    let f : Followed u n start seed rule p output' = rw copied at follows in
+    record { answers = a ∙ answer-noted u n start seed (stopOf plusZero u n start seed rule) p (f .path); writes = f .weights; floats = N; words = I }
 
 module _ (rule : Rule) (seed : ℕ) (u : List Float) (m n : ℕ) (w output numbers : List Float) (indices : List ℕ) where
   -- refused
@@ -66,13 +68,11 @@ module _ (rule : Rule) (seed : ℕ) (u : List Float) (m n : ℕ) (w output numbe
       → Thinned rule seed u m n w output numbers indices r output' numbers' indices'
   unfolding answerOf
   thinned-from z r output' numbers' indices' p =
-      let start : List Float = normalized plusZero w in
-      let is = p .answers ∙ ap (answerAt (columnsOf u n) n start (stopOf plusZero (columnsOf u n) n start seed rule)) (p .writes) in
       record {
-        answers = is ∙ sym (rw z);
-        writes = p .writes ∙ sym (rw is);
-        floats = p .floats ∙ sym (rw is);
-        words = p .words ∙ sym (rw is);
+        answers = p .answers ∙ sym (rw z);
+        writes = p .writes ∙ sym (rw (p .answers));
+        floats = p .floats ∙ sym (rw (p .answers));
+        words = p .words ∙ sym (rw (p .answers));
       }
 
 -- what passes each passes all

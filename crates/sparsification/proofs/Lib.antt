@@ -8,3 +8,4 @@ pub mod DemandThree
 pub mod Settled
 pub mod Hundred
 pub mod Starts
+pub mod Along

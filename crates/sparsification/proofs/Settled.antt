@@ -14,8 +14,7 @@ use Rattle.halving.proofs.Few.{largest-alone}
 use Rattle.stages.specs.Stages.{stageOf}
 use Rattle.stages.specs.Stopping.{entriesAt}
 use Rattle.faults.specs.Faults.{jobFault}
-use Rattle.sparsification.specs.Answers.{Thinned}
-use Rattle.sparsification.specs.Thinning.{answerAt}
+use Rattle.sparsification.specs.Answers.{answerAt, Thinned}
 use Rattle.sparsification.specs.declared.Answer.{Answer}
 use Rattle.rules.specs.declared.Rule.{Rule}
 use Rattle.stages.proofs.Halting.{Leads, FirstStop, only, stop-is-first}
@@ -37,13 +36,13 @@ module _ {rule : Rule} {seed : ℕ} {u : List Float} {m n : ℕ} {w output numbe
     (job : Thinned rule seed u m n w output numbers indices r output' numbers' indices') (doubles : Doubles w)
     (sound : jobFault rule u m n w (length output) (length numbers) (length indices) ≡ 0)
     (k : ℕ) (stop : FirstStop plusZero (columnsOf u n) n (normalized plusZero w) seed rule k) where
-  pub settled : (r ≡ answerAt (columnsOf u n) n (normalized plusZero w) k (stageOf plusZero (columnsOf u n) n (normalized plusZero w) seed k .w))
+  pub settled : (r ≡ answerAt (columnsOf u n) n (normalized plusZero w) seed k)
       × (output' ≡ stageOf plusZero (columnsOf u n) n (normalized plusZero w) seed k .w)
   settled =
       let start : List Float = normalized plusZero w in
       let a = accepted rule u m n w (length output) (length numbers) (length indices) sound in
       let falls = falling (columnsOf u n) n start seed (start-normal doubles a) (start-few doubles a) in
       let e = only plusZero (columnsOf u n) n start seed (stop-is-first plusZero (columnsOf u n) n start seed falls rule (a .ruled)) stop in (
-        answer-stage job sound ∙ ap (λ (i : ℕ). answerAt (columnsOf u n) n start i (stageOf plusZero (columnsOf u n) n start seed i .w)) e,
+        answer-stage job sound ∙ ap (answerAt (columnsOf u n) n start seed) e,
         output-stage job (number-there job sound) ∙ ap (λ (i : ℕ). stageOf plusZero (columnsOf u n) n start seed i .w) e,
       )

@@ -11,7 +11,7 @@ use Rattle.seq.specs.Sums.{plusZero}
 use Rattle.limits.specs.Matrix.{columnsOf}
 use Rattle.weights.specs.Weights.{nonzeros, normalized}
 use Rattle.halve.specs.Halve.{Halved}
-use Rattle.stages.specs.Stages.{stageOf, movedBy}
+use Rattle.stages.specs.Stages.{stageOf, movedBy, pathNonzeros, pathChange}
 use Rattle.stages.specs.Stopping.{stopOf}
 use Rattle.faults.specs.Faults.{jobFault}
 use Rattle.sparsification.specs.declared.Answer.{Answer}
@@ -19,7 +19,28 @@ use Rattle.rules.specs.declared.Rule.{Rule}
 
 -- a refusal: its number, and zeros
 abbrev pub refusal : ℕ → Answer
-refusal number = record { number = number; stage = 0; nonzeros = 0; change = plusZero }
+refusal number =
+    record {
+      number = number;
+      stage = 0;
+      nonzeros = 0;
+      change = plusZero;
+      «path_nonzeros» = repeated 0 9;
+      «path_change» = repeated plusZero 9;
+    }
+
+-- the answer that returns stage k: its nonzeros, its change from the normalized weights, and both of every stage up to it
+abbrev pub answerAt : (ℕ → ℕ → Float) → ℕ → List Float → ℕ → ℕ → Answer
+answerAt u n start seed k =
+    let s : Halved = stageOf plusZero u n start seed k in
+    record {
+      number = 0;
+      stage = k;
+      nonzeros = nonzeros (s .w);
+      change = movedBy u n start s;
+      «path_nonzeros» = pathNonzeros plusZero u n start seed k;
+      «path_change» = pathChange plusZero u n start seed k;
+    }
 
 -- the stage at which a job on the weights w stops
 abbrev pub stopFor : List Float → ℕ → List Float → ℕ → Rule → ℕ
@@ -29,16 +50,9 @@ stopFor u n w seed rule = stopOf plusZero (columnsOf u n) n (normalized plusZero
 abbrev pub returned : List Float → ℕ → List Float → ℕ → Rule → Halved
 returned u n w seed rule = stageOf plusZero (columnsOf u n) n (normalized plusZero w) seed (stopFor u n w seed rule)
 
--- the answer of a job that is not refused: the stage, its nonzeros and its change
+-- the answer of a job that is not refused
 unfoldable pub answerOf : List Float → ℕ → List Float → ℕ → Rule → Answer
-answerOf u n w seed rule =
-    let s : Halved = returned u n w seed rule in
-    record {
-      number = 0;
-      stage = stopFor u n w seed rule;
-      nonzeros = nonzeros (s .w);
-      change = movedBy (columnsOf u n) n (normalized plusZero w) s;
-    }
+answerOf u n w seed rule = answerAt (columnsOf u n) n (normalized plusZero w) seed (stopFor u n w seed rule)
 
 -- The answer, the output and the scratch: a refusal changes nothing, and an accepted job writes its stage and zeroes the scratch.
 pub record Thinned (rule : Rule) (seed : ℕ) (u : List Float) (m n : ℕ) (w output numbers : List Float) (indices : List ℕ)

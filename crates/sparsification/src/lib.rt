@@ -1,26 +1,25 @@
 // The thinning: sparsify, sparsify_within, and thin, which takes either's rule in a job.
 use faults::job_fault;
-use margins::change_of;
 use rules::Cap;
 use rules::Rule;
 use seq::clear;
 use seq::clear_words;
 use seq::copy;
+use stages::Path;
 use stages::follow;
-use weights::count_nonzeros;
 use weights::normalize;
 ghost use mathlib.Core.Path.{_≡_};
+ghost use Prim.Native.Nat.{_≤_};
 ghost use lib.ListN.{length};
 ghost use Rattle.seq.specs.Sums.{plusZero};
 ghost use Rattle.sparsification.specs.Answers.{refusal, Thinned};
-ghost use Rattle.sparsification.specs.Thinning.{answerAt, ThinnedFrom};
+ghost use Rattle.sparsification.specs.Thinning.{answerFor, ThinnedFrom};
 ghost use Rattle.rules.specs.Rules.{ruleFault};
 ghost use Rattle.faults.specs.Faults.{valueFault};
 ghost use Rattle.rules.specs.declared.Rule.the-variants.{Target, Within};
 ghost use Rattle.limits.specs.Limits.{bounded};
 ghost use Rattle.limits.specs.Matrix.{columnsOf};
 ghost use Rattle.ieee.specs.Constants.{one};
-ghost use Rattle.margins.specs.Blocks.{Lent};
 ghost use Rattle.weights.specs.Weights.{normalized};
 ghost use Rattle.halve.specs.Handed.{Ready};
 ghost use mathlib.Core.Bool.{true};
@@ -31,13 +30,16 @@ pub struct Job {
     pub rule: Rule,
 }
 
-// The refusal number or 0, the stage that is returned, its nonzero entries, and its change from the normalized input.
+// The refusal number or 0, the stage that is returned, its nonzero entries, and its change from the normalized input; then the entries and
+// the change of each stage from 0 to the one returned, and zeros after it.
 #[repr(C)]
 pub struct Answer {
     pub number: u64,
     pub stage: u64,
     pub nonzeros: u64,
     pub change: f64,
+    pub path_nonzeros: [u64; 9],
+    pub path_change: [f64; 9],
 }
 
 // A refusal: its number, and zeros.
@@ -49,19 +51,24 @@ fn refused(number: u64) -> Answer
         stage: 0,
         nonzeros: 0,
         change: 0.0,
+        path_nonzeros: [0; 9],
+        path_change: [0.0; 9],
     }
 }
 
-// The answer for the weights that were reached.
-fn finish(matrix: &[f64], n: usize, start: &[f64], w: &[f64], stage: usize) -> Answer
-    requires { ⌜ Lent (now matrix) (length (now start)) n × (length (now w) ≡ length (now start)) ⌝ }
-    ensures { λ r. ⌜ r ≡ answerAt (columnsOf (now (matrix .entry)) n) n (now (start .entry)) stage (now (w .entry)) ⌝ }
+// The answer for the end of a path.
+fn answer_for(p: Path) -> Answer
+    requires { ⌜ p .stage ≤ 8 ⌝ }
+    ensures { λ r. ⌜ r ≡ answerFor p ⌝ }
 {
+    let last = p.stage;
     Answer {
         number: 0,
-        stage: stage as u64,
-        nonzeros: count_nonzeros(w) as u64,
-        change: change_of(matrix, n, start, w),
+        stage: last as u64,
+        nonzeros: p.nonzeros[last],
+        change: p.change[last],
+        path_nonzeros: p.nonzeros,
+        path_change: p.change,
     }
 }
 
@@ -83,7 +90,7 @@ fn thin_on(
         (now (indices .entry)) r (now (output .exit)) (now (numbers .exit)) (now (indices .exit)) ⌝ }
 {
     copy(&mut output[..], start);
-    let stage = follow(
+    let path = follow(
         matrix,
         n,
         start,
@@ -96,7 +103,7 @@ fn thin_on(
     );
     clear(numbers);
     clear_words(indices);
-    finish(matrix, n, start, &output[..], stage)
+    answer_for(path)
 }
 
 // Normalizes the weights of a job that has no fault, and thins from there. start is room for them.

@@ -1,34 +1,73 @@
 -- A job that follows the stages: where it stands on them, what one more pass makes of that, and what it has reached at each way out.
-use Prim.Native.Nat.{ℕ, suc, _+_, _≤_, _<_}
+use Prim.Native.Nat.{ℕ, zero, suc, _+_, _*_, _^_, _-_, _≤_, _<_}
 use mathlib.Core.Path.{_≡_, refl, sym, ap, _∙_}
 use mathlib.Core.Bool.{Bool, true, false, not, _&&_, _||_, and-comm}
-use mathlib.Core.List.{List}
+use mathlib.Core.List.{List, _++_}
 use native.Mathlib.Omega.{arith}
+use native.Mathlib.Decide.{decLt}
+use native.Mathlib.Nat.{mul-le-mul, mul-le-mul-left, pow-succ'}
+use lib.Pow.{pow-mono}
 use native.Mathlib.Numerals.{add-one}
 use lib.Dec.{leb, ltb}
-use lib.ListN.{length}
+use lib.ListN.{length, getD, set, drop, length-drop, List·getD-append}
+use lib.Seq.{ext-getD, getD-drop}
 use lib.Ieee.{Float, le}
 use borrow.Author.Tests.{le-leb, lt-leb, lt-ltb, ne-eqb, not-true, not-false}
 use Rattle.seq.specs.Choice.{pick}
+use Rattle.seq.specs.Lists.{tabulate, repeated}
 use Rattle.seq.specs.Sums.{plusZero}
+use Rattle.seq.proofs.Filling.{Filled, filled, turn, length-tab, getD-tab}
+use Rattle.seq.proofs.Filling as filling
 use Rattle.margins.specs.Margins.{maxChange}
 use Rattle.weights.specs.Weights.{isOn, nonzeros}
 use Rattle.halve.specs.Halve.{Halved}
 use Rattle.halve.specs.Handed.{halvesOf}
 use Rattle.halving.specs.Halving.{passOf}
-use Rattle.stages.specs.Stages.{stageOf}
+use Rattle.stages.specs.Stages.{stageOf, movedBy, pathOf}
 use Rattle.rules.specs.Rules.{meets, ruleFault}
 use Rattle.stages.specs.Stopping.{entriesAt, above, rests, exceeds, stops, stopOf}
-use Rattle.stages.specs.Paths.{Followed}
+use Rattle.stages.specs.Paths.{Noted, Followed}
+use Rattle.stages.specs.declared.Path.{Path}
 use Rattle.trial.specs.Trial.{TriedOnce, aboveAfter}
 use Rattle.rules.specs.declared.Cap.{Cap}
 use Rattle.rules.specs.declared.Rule.{Rule}
 use Rattle.rules.specs.declared.Rule.the-variants.{Target, Within}
 use Rattle.trial.specs.declared.Tried.{Tried}
-use Rattle.seq.proofs.Choosing.{first-holds, second-holds, both}
-use Rattle.stages.proofs.Halting.{Falls, goes, only, stop-is-first, below-more}
+use Rattle.seq.proofs.Choosing.{first-holds, second-holds}
+use Rattle.stages.proofs.Halting.{Leads, Falls, goes, only, stop-is-first, below-more}
 use Rattle.seq.proofs.Keeping.{count-short}
 use Rattle.stages.proofs.Lengths.{length-pass}
+
+-- a stage with room for a pass is before the ninth
+pub eight : (i k : ℕ) → 2 ^ i * k ≤ 256 → 2 ≤ k → suc i ≤ 8
+eight i k room some = go (decLt i 8)
+  where
+    go : Dec (i < 8) → suc i ≤ 8
+    go (yes h) = h
+    go (no h) = absurd (let f : 2 ^ 8 * 2 ≤ 2 ^ i * k = mul-le-mul (pow-mono (let g : 8 ≤ i = omega arith in g)) some in omega arith)
+
+-- a path has at each place what it is of
+pub path-at : {A : Type 0} (none : A) (has : ℕ → A) (k i : ℕ) (z : A) → i ≤ k → getD (pathOf none has k) i z ≡ has i
+path-at none has k i z l =
+    List·getD-append (tabulate has (suc k)) (repeated none (8 - k)) z i (rw (length-tab has (suc k)) (omega arith)) ∙ getD-tab has (suc k) i z (omega arith)
+
+-- zeros stand after what is noted
+zeros-after : {A : Type 0} (none : A) (has : ℕ → A) (k : ℕ) → k ≤ 8 → filled has (repeated none 9) (k + 1) ≡ pathOf none has k
+zeros-after none has k near =
+    let long = length-drop (suc k) (repeated none 9) in
+    let nine = length-tab (λ i. none) 9 in
+    let others = length-tab (λ i. none) (8 - k) in
+    rw (add-one k)
+    (ap (λ xs. tabulate has (suc k) ++ xs)
+    (ext-getD none (drop (suc k) (repeated none 9)) (repeated none (8 - k)) (omega (arith, long, nine, others))
+    (λ i l. getD-drop (suc k) (repeated none 9) i none ∙ getD-tab (λ i. none) 9 (suc k + i) none (omega (arith, l, long, nine))
+    ∙ sym (getD-tab (λ i. none) (8 - k) i none (omega (arith, l, long, nine))))))
+
+-- half as many at the next
+halved : (i k k' : ℕ) → 2 * k' ≤ k → 2 ^ i * k ≤ 256 → 2 ^ suc i * k' ≤ 256
+halved i k k' half room =
+    let f : 2 ^ i * (2 * k') ≤ 2 ^ i * k = mul-le-mul-left (2 ^ i) half in
+    omega (arith, ap (λ (z : ℕ). z * k') (pow-succ' 2 i))
 
 -- a positive target is not refused
 pub target-fine : (t : ℕ) → 0 < t → ruleFault (Target t) ≡ 0
@@ -42,13 +81,20 @@ module _ (u : ℕ → ℕ → Float) (n : ℕ) (start : List Float) (seed : ℕ)
   pub record OnPath (rule : Rule) (i : ℕ) (w : List Float) (rng : ℕ) : Type 0 where
     pub there : halvesOf w rng ≡ stageOf plusZero u n start seed i
     pub before : (j : ℕ) → j < i → stops plusZero u n start seed rule j ≡ false
-    pub short : i + nonzeros w ≤ length start
+    pub near : i ≤ 8
+    pub room : 2 ^ i * nonzeros w ≤ 256
     pub long : length w ≡ length start
 
-  pub on-start : (rule : Rule) → OnPath rule 0 start seed
+  pub on-start : length start ≤ 256 → (rule : Rule) → OnPath rule 0 start seed
   unfolding stageOf
-  on-start rule =
-      record { there = refl; before = λ j l. absurd (omega arith); short = omega (arith, count-short (isOn start) (length start)); long = refl }
+  on-start few rule =
+      record {
+        there = refl;
+        before = λ j l. absurd (omega arith);
+        near = omega arith;
+        room = omega (arith, count-short (isOn start) (length start));
+        long = refl;
+      }
 
   -- the next stage is the pass from there
   abbrev pub passFrom : List Float → ℕ → Halved
@@ -75,6 +121,45 @@ module _ (u : ℕ → ℕ → Float) (n : ℕ) (start : List Float) (seed : ℕ)
   pub opens : (a : Float) (c : Cap) → closes a c 0 ≡ false
   opens a c = refl
 
+  -- ---- the path that is noted
+
+  -- what stage i has
+  abbrev movedAt : ℕ → Float
+  movedAt i = movedBy u n start (stageOf plusZero u n start seed i)
+
+  -- the stages up to i are noted
+  pub record Written (i : ℕ) (nonzeros : List ℕ) (change : List Float) : Type 0 where
+    pub counts : Filled (entriesAt plusZero u n start seed) (repeated 0 9) (i + 1) nonzeros
+    pub moves : Filled movedAt (repeated plusZero 9) (i + 1) change
+
+  module _ {rule : Rule} {i : ℕ} {w : List Float} {rng : ℕ} (on : OnPath rule i w rng) {k : ℕ} {x : Float} (counted : k ≡ nonzeros w) (measured : x ≡ maxChange u (length start) n start w) where
+    count-is : k ≡ entriesAt plusZero u n start seed i
+    count-is = counted ∙ sym (entries-there on)
+
+    move-is : x ≡ movedAt i
+    move-is = measured ∙ ap (maxChange u (length start) n start) (weights-there on)
+
+    room-at : {A : Type 0} (y : A) → i < length (repeated y 9)
+    room-at y = rw (length-tab (λ j. y) 9) (omega (arith, on .near))
+
+    pub note : {ns : List ℕ} {cs : List Float} → Filled (entriesAt plusZero u n start seed) (repeated 0 9) i ns → Filled movedAt (repeated plusZero 9) i cs
+        → Written i (set ns i k) (set cs i x)
+    note a b = record { counts = turn a (room-at 0) count-is; moves = turn b (room-at plusZero) move-is }
+
+  pub note-first : length start ≤ 256 → {k : ℕ} {x : Float} → k ≡ nonzeros start → x ≡ maxChange u (length start) n start start
+      → Written 0 (set (repeated 0 9) 0 k) (set (repeated plusZero 9) 0 x)
+  note-first few counted measured = note (on-start few (Target 1)) counted measured (filling.start _ _) (filling.start _ _)
+
+  -- it is the path of the definition
+  pub noted : {i : ℕ} {ns : List ℕ} {cs : List Float} → i ≤ 8 → Written i ns cs → (r : Path) → r .stage ≡ i → r .nonzeros ≡ ns → r .change ≡ cs → Noted u n start seed i r
+  noted {i} near p r s a b =
+      record {
+        near = near;
+        stage = s;
+        nonzeros = a ∙ p .counts .is ∙ zeros-after 0 (entriesAt plusZero u n start seed) i near;
+        change = b ∙ p .moves .is ∙ zeros-after plusZero movedAt i near;
+      }
+
   module _ (falls : Falls plusZero u n start seed) {rule : Rule} {i : ℕ} {w : List Float} {rng : ℕ} (accepted : ruleFault rule ≡ 0) (on : OnPath rule i w rng) where
     -- one more stage
     module _ {w' : List Float} {rng' : ℕ} (goes-on : stops plusZero u n start seed rule i ≡ false) (pass : halvesOf w' rng' ≡ passFrom w rng) where
@@ -84,10 +169,16 @@ module _ (u : ℕ → ℕ → Float) (n : ℕ) (start : List Float) (seed : ℕ)
       is-next : halvesOf w' rng' ≡ stageOf plusZero u n start seed (suc i)
       is-next = pass ∙ next-there on
 
-      pub fewer : nonzeros w' < nonzeros w
-      fewer =
+      pub some : 2 ≤ nonzeros w
+      some = omega (arith, goes plusZero u n start seed rule i accepted goes-on, entries-there on)
+
+      half : 2 * nonzeros w' ≤ nonzeros w
+      half =
           let after : nonzeros w' ≡ entriesAt plusZero u n start seed (suc i) = ap (λ (h : Halved). nonzeros (h .w)) is-next in
           omega (arith, falls i (λ j l. goes plusZero u n start seed rule j accepted (below j l)), entries-there on, after)
+
+      pub fewer : nonzeros w' < nonzeros w
+      fewer = omega (arith, half, some)
 
       pub next-on : OnPath rule (i + 1) w' rng'
       next-on =
@@ -95,28 +186,29 @@ module _ (u : ℕ → ℕ → Float) (n : ℕ) (start : List Float) (seed : ℕ)
           (record {
             there = is-next;
             before = below;
-            short = omega (arith, on .short, fewer);
+            near = eight i (nonzeros w) (on .room) some;
+            room = halved i (nonzeros w) (nonzeros w') half (on .room);
             long = ap (λ (h : Halved). length (h .w)) pass ∙ length-pass plusZero u n (halvesOf w rng) ∙ on .long;
           })
 
     -- the ways out: the stage is returned
-    module _ {reached : ℕ} (here : reached ≡ i) where
-      ended : stops plusZero u n start seed rule i ≡ true → Followed u n start seed rule reached w
+    module _ {r : Path} (path : Noted u n start seed i r) where
+      ended : stops plusZero u n start seed rule i ≡ true → Followed u n start seed rule r w
       ended h =
           let stop : stopOf plusZero u n start seed rule ≡ i =
           only plusZero u n start seed (stop-is-first plusZero u n start seed falls rule accepted) (record { there = h; before = on .before }) in
-          record { stage = here ∙ sym stop; weights = rw stop (weights-there on) }
+          record { path = rw stop path; weights = rw stop (weights-there on) }
 
-      pub rested : rests plusZero u n start seed rule i ≡ true → Followed u n start seed rule reached w
+      pub rested : rests plusZero u n start seed rule i ≡ true → Followed u n start seed rule r w
       rested h = ended (first-holds (rests plusZero u n start seed rule i) _ h)
 
-      pub exceeded : exceeds plusZero u n start seed rule i ≡ true → Followed u n start seed rule reached w
+      pub exceeded : exceeds plusZero u n start seed rule i ≡ true → Followed u n start seed rule r w
       exceeded h = ended (second-holds (rests plusZero u n start seed rule i) _ h)
 
   -- the job with a target
   module _ (falls : Falls plusZero u n start seed) {t i : ℕ} {w : List Float} {rng : ℕ} (positive : 0 < t) (on : OnPath (Target t) i w rng) where
-    pub target-met : nonzeros w ≤ t → {reached : ℕ} → reached ≡ i → Followed u n start seed (Target t) reached w
-    target-met h here = rested falls (target-fine t positive) on here (le-leb (entriesAt plusZero u n start seed i) t (rw (entries-there on) h))
+    pub target-met : nonzeros w ≤ t → {r : Path} → Noted u n start seed i r → Followed u n start seed (Target t) r w
+    target-met h path = rested falls (target-fine t positive) on path (le-leb (entriesAt plusZero u n start seed i) t (rw (entries-there on) h))
 
     module _ {w' : List Float} {rng' : ℕ} (more : t < nonzeros w) (pass : halvesOf w' rng' ≡ passFrom w rng) where
       missed : stops plusZero u n start seed (Target t) i ≡ false
@@ -130,9 +222,9 @@ module _ (u : ℕ → ℕ → Float) (n : ℕ) (start : List Float) (seed : ℕ)
 
   -- the job with an allowance
   module _ (falls : Falls plusZero u n start seed) {a : Float} {c : Cap} {i : ℕ} {w : List Float} {rng : ℕ} (accepted : ruleFault (Within a c) ≡ 0) (on : OnPath (Within a c) i w rng) where
-    pub allowance-met : nonzeros w ≤ 1 → {reached : ℕ} → reached ≡ i → Followed u n start seed (Within a c) reached w
-    allowance-met h here =
-        rested falls accepted on here
+    pub allowance-met : nonzeros w ≤ 1 → {r : Path} → Noted u n start seed i r → Followed u n start seed (Within a c) r w
+    allowance-met h path =
+        rested falls accepted on path
         (first-holds (leb (entriesAt plusZero u n start seed i) 1) _ (le-leb (entriesAt plusZero u n start seed i) 1 (rw (entries-there on) h)))
 
     after-is : above plusZero u n start seed a (suc i) ≡ aboveAfter u n start a w rng
@@ -149,11 +241,11 @@ module _ (u : ℕ → ℕ → Float) (n : ℕ) (start : List Float) (seed : ℕ)
       unrested = rw (lt-leb (entriesAt plusZero u n start seed i) 1 (rw (entries-there on) more)) goes-on
 
       -- the pass was not taken
-      pub allowance-left : r .taken ≡ false → {reached : ℕ} → reached ≡ i → Followed u n start seed (Within a c) reached w'
-      allowance-left t here =
+      pub allowance-left : r .taken ≡ false → {p : Path} → Noted u n start seed i p → Followed u n start seed (Within a c) p w'
+      allowance-left t path =
           let stays : w' ≡ w = tried .weights ∙ ap (λ (b : Bool). pick b (passFrom w rng .w) w) t in
           rw stays
-          (exceeded falls accepted on here (exceeds-is ∙ not-false (aboveAfter u n start a w rng && meets c (nonzeros w)) (sym (tried .taken) ∙ t)))
+          (exceeded falls accepted on path (exceeds-is ∙ not-false (aboveAfter u n start a w rng && meets c (nonzeros w)) (sym (tried .taken) ∙ t)))
 
       -- it was
       module _ (taken : r .taken ≡ true) where
@@ -186,12 +278,25 @@ module _ (u : ℕ → ℕ → Float) (n : ℕ) (start : List Float) (seed : ℕ)
         pub allowance-goes : r .more ≡ true → closes a c (i + 1) ≡ false
         allowance-goes m = closes-is ∙ not-true (aboveAfter u n start a w rng && meets c (nonzeros w')) (sym more-is ∙ m)
 
-        pub allowance-last : r .more ≡ false → {reached : ℕ} → reached ≡ i + 1 → Followed u n start seed (Within a c) reached w'
-        allowance-last m here =
-            rested falls accepted allowance-on here
+        pub measured : r .change ≡ maxChange u (length start) n start w'
+        measured = tried .change ∙ ap (maxChange u (length start) n start) (sym moves)
+
+        pub allowance-last : r .more ≡ false → {p : Path} → Noted u n start seed (i + 1) p → Followed u n start seed (Within a c) p w'
+        allowance-last m path =
+            rested falls accepted allowance-on path
             (second-holds (leb (entriesAt plusZero u n start seed (i + 1)) 1) _
             (closes-is ∙ not-false (aboveAfter u n start a w rng && meets c (nonzeros w')) (sym more-is ∙ m)))
 
-      -- another is tried only where it was taken
-      pub more-taken : r .more ≡ true → r .taken ≡ true
-      more-taken m = both (r .taken) (not (aboveAfter u n start a w rng && meets c (nonzeros w'))) (sym (tried .more) ∙ m) .0
+  -- ---- how many stages there are
+
+  module _ (falls : Falls plusZero u n start seed) (few : length start ≤ 256) where
+    -- a stage that a job comes to has room for its nonzeros, each pass leaving at most half
+    room-at-stage : (i : ℕ) → Leads plusZero u n start seed i → 2 ^ i * entriesAt plusZero u n start seed i ≤ 256
+    room-at-stage zero g = unfold stageOf in omega (arith, count-short (isOn start) (length start))
+    room-at-stage (suc i) g =
+        halved i (entriesAt plusZero u n start seed i) (entriesAt plusZero u n start seed (suc i)) (falls i g) (room-at-stage i (λ j l. g j (omega arith)))
+
+    -- so from 256 weights there are at most nine stages
+    pub nine-stages : (i : ℕ) → Leads plusZero u n start seed i → i ≤ 8
+    nine-stages zero g = omega arith
+    nine-stages (suc i) g = eight i (entriesAt plusZero u n start seed i) (room-at-stage i (λ j l. g j (omega arith))) (g i (omega arith))

@@ -1,5 +1,5 @@
 -- The search for the stage at which a job stops: where each pass leaves fewer nonzeros it finds the first stage that stops, and more fuel changes nothing.
-use Prim.Native.Nat.{ℕ, zero, suc, _+_, _≤_, _<_}
+use Prim.Native.Nat.{ℕ, zero, suc, _+_, _*_, _≤_, _<_}
 use mathlib.Core.Path.{_≡_, refl}
 use mathlib.Core.Bool.{Bool, true, false}
 use mathlib.Core.List.{List}
@@ -55,9 +55,13 @@ module _ (z : Float) (u : ℕ → ℕ → Float) (n : ℕ) (start : List Float) 
   abbrev pub Leads : ℕ → Type 0
   Leads i = (j : ℕ) → j < i → 2 ≤ entriesAt z u n start seed j
 
-  -- each pass that a job makes leaves fewer
+  -- each pass that a job makes leaves at most half
   abbrev pub Falls : Type 0
-  Falls = (i : ℕ) → Leads (suc i) → entriesAt z u n start seed (suc i) < entriesAt z u n start seed i
+  Falls = (i : ℕ) → Leads (suc i) → 2 * entriesAt z u n start seed (suc i) ≤ entriesAt z u n start seed i
+
+  -- so there are strictly fewer
+  pub strictly : Falls → (i : ℕ) → Leads (suc i) → entriesAt z u n start seed (suc i) < entriesAt z u n start seed i
+  strictly falls i g = omega (arith, falls i g, g i (omega arith))
 
   pub below-more : (rule : Rule) (i : ℕ) → ((j : ℕ) → j < i → stops z u n start seed rule j ≡ false) → stops z u n start seed rule i ≡ false
       → (j : ℕ) → j < suc i → stops z u n start seed rule j ≡ false
@@ -80,7 +84,7 @@ module _ (z : Float) (u : ℕ → ℕ → Float) (n : ℕ) (start : List Float) 
         go true e r = record { there = e; before = g }
         go false e r =
             let below = below-more rule i g e in
-            r (omega (arith, falls i (λ j l. goes rule j accepted (below j l)))) below
+            r (omega (arith, strictly falls i (λ j l. goes rule j accepted (below j l)))) below
 
     pub entries-short : entriesAt z u n start seed 0 ≤ length start
     unfolding stageOf

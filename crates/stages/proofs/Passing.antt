@@ -28,7 +28,8 @@ use Rattle.limits.proofs.Bounded.{bounded-at, finite-within}
 use Rattle.ieee.specs.Constants.{one}
 use Rattle.weights.specs.Weights.{isOn, l1Of, sound, overAt, normalized}
 use Rattle.halve.specs.Halve.{Halved}
-use Rattle.halving.proofs.Fewer.{sum, pass-fewer, sum-sound, pass-normal, pass-same-sign}
+use Rattle.halving.proofs.Fewer.{sum, sum-sound, pass-normal, pass-same-sign}
+use Rattle.halving.proofs.Quarter.{pass-half}
 use Rattle.stages.specs.Stages.{stageOf}
 use Rattle.stages.specs.Among.{Among}
 use Rattle.seq.proofs.Choosing.{both, holds, shown}
@@ -63,10 +64,10 @@ module _ (u : ℕ → ℕ → Float) (n : ℕ) (start : List Float) (seed : ℕ)
   pub stage-sound : (i : ℕ) → Leads plusZero u n start seed (suc i) → sound (sum plusZero u n (stage i)) ≡ true
   stage-sound i g = sum-sound u n (stage i) (g i (omega arith)) (normal-stage i (λ j l. g j (omega arith))) (few-at i)
 
-  -- and it leaves fewer
+  -- and it leaves at most half
   pub falling : Falls plusZero u n start seed
   unfolding stageOf
-  falling i g = pass-fewer plusZero u n (stage i) (g i (omega arith)) (stage-sound i g)
+  falling i g = pass-half plusZero u n (stage i) (g i (omega arith)) (stage-sound i g)
 
   -- signs are kept
   pub signed-stage : (i : ℕ) → Leads plusZero u n start seed (suc i) → Among (stage i .w) (stage (suc i) .w)

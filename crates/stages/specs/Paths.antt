@@ -1,14 +1,22 @@
--- Told between functions: the stage that was reached, and its weights.
-use Prim.Native.Nat.{ℕ}
+-- Told between functions: the path to the stage that was reached, and its weights.
+use Prim.Native.Nat.{ℕ, _≤_}
 use mathlib.Core.Path.{_≡_}
 use mathlib.Core.List.{List}
 use lib.Ieee.{Float}
 use Rattle.seq.specs.Sums.{plusZero}
-use Rattle.stages.specs.Stages.{stageOf}
+use Rattle.stages.specs.Stages.{stageOf, pathNonzeros, pathChange}
 use Rattle.stages.specs.Stopping.{stopOf}
+use Rattle.stages.specs.declared.Path.{Path}
 use Rattle.rules.specs.declared.Rule.{Rule}
 
+-- the path to the stage k
+pub record Noted (u : ℕ → ℕ → Float) (n : ℕ) (start : List Float) (seed k : ℕ) (r : Path) : Type 0 where
+  pub near : k ≤ 8
+  pub stage : r .stage ≡ k
+  pub nonzeros : r .nonzeros ≡ pathNonzeros plusZero u n start seed k
+  pub change : r .change ≡ pathChange plusZero u n start seed k
+
 -- the stage that was reached is the one at which the rule stops, and w holds it
-pub record Followed (u : ℕ → ℕ → Float) (n : ℕ) (start : List Float) (seed : ℕ) (rule : Rule) (reached : ℕ) (w : List Float) : Type 0 where
-  pub stage : reached ≡ stopOf plusZero u n start seed rule
+pub record Followed (u : ℕ → ℕ → Float) (n : ℕ) (start : List Float) (seed : ℕ) (rule : Rule) (r : Path) (w : List Float) : Type 0 where
+  pub path : Noted u n start seed (stopOf plusZero u n start seed rule) r
   pub weights : w ≡ stageOf plusZero u n start seed (stopOf plusZero u n start seed rule) .w

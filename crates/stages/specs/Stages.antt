@@ -1,9 +1,13 @@
 -- The one sequence of stages: stage 0 is the normalized input, and each pass makes the next from the one before, with a generator that runs on.
+-- And the path along it, to the stage that a job returns.
 -- A matrix is a function of the column and the row; it has n rows. z is what a sum starts from.
-use Prim.Native.Nat.{ℕ, zero, suc}
-use mathlib.Core.List.{List}
+use Prim.Native.Nat.{ℕ, zero, suc, _-_}
+use mathlib.Core.List.{List, _++_}
 use lib.ListN.{length}
 use lib.Ieee.{Float}
+use Rattle.seq.specs.Lists.{tabulate, repeated}
+use Rattle.seq.specs.Sums.{plusZero}
+use Rattle.weights.specs.Weights.{nonzeros}
 use Rattle.halve.specs.Halve.{Halved}
 use Rattle.halving.specs.Halving.{passOf}
 use Rattle.margins.specs.Margins.{maxChange}
@@ -16,3 +20,15 @@ stageOf z u n start seed (suc i) = passOf z u n (stageOf z u n start seed i)
 -- how far the margins have moved from the normalized weights, at the worst row
 abbrev pub movedBy : (ℕ → ℕ → Float) → ℕ → List Float → Halved → Float
 movedBy u n start s = maxChange u (length start) n start (s .w)
+
+-- What each stage from 0 to k has, in order, and zeros after it. Nine places: from 256 weights there are at most nine stages.
+abbrev pub pathOf : {A : Type 0} → A → (ℕ → A) → ℕ → List A
+pathOf none has k = tabulate has (suc k) ++ repeated none (8 - k)
+
+-- the nonzeros of the stages from 0 to k
+abbrev pub pathNonzeros : Float → (ℕ → ℕ → Float) → ℕ → List Float → ℕ → ℕ → List ℕ
+pathNonzeros z u n start seed k = pathOf 0 (λ i. nonzeros (stageOf z u n start seed i .w)) k
+
+-- and how far each has moved
+abbrev pub pathChange : Float → (ℕ → ℕ → Float) → ℕ → List Float → ℕ → ℕ → List Float
+pathChange z u n start seed k = pathOf plusZero (λ i. movedBy u n start (stageOf z u n start seed i)) k

@@ -1,6 +1,7 @@
 // How a job follows the stages to the one at which it stops.
 use draw::SplitMix64;
 use halving::halving_pass;
+use margins::change_of;
 use rules::Cap;
 use rules::Rule;
 use trial::try_pass;
@@ -17,22 +18,36 @@ ghost use Rattle.stages.specs.Paths.{Followed};
 ghost use Rattle.rules.specs.Rules.{ruleFault};
 ghost use Rattle.rules.specs.declared.Rule.the-variants.{Target, Within};
 
-// Passes until at most so many entries are not 0; the stage that is reached. w starts as the normalized weights.
+// The stage that a job has reached, and the nonzero entries and the change of each stage from 0 to it; zeros after it.
+pub struct Path {
+    pub stage: usize,
+    pub nonzeros: [u64; 9],
+    pub change: [f64; 9],
+}
+
+// Passes until at most so many entries are not 0; the path to there. w and start are the normalized weights.
 fn to_target(
     matrix: &[f64],
     n: usize,
+    start: &[f64],
     w: &mut [f64],
     numbers: &mut [f64],
     indices: &mut [u32],
     seed: u64,
     target: usize,
-) -> usize
-    requires { ⌜ Ready (now matrix) n (now w) (now numbers) (now indices) × (bounded one (now w) ≡ true) × (0 < target) ⌝ }
+) -> Path
+    requires { ⌜ Ready (now matrix) n (now w) (now numbers) (now indices) × (bounded one (now w) ≡ true) × (now w ≡ now start)
+        × (0 < target) ⌝ }
     ensures { λ r. ⌜ Followed (columnsOf (now (matrix .entry)) n) n (now (w .entry)) seed (Target target) r (now (w .exit)) ⌝ }
 {
     let mut rng = SplitMix64::new(seed);
     let mut stage = 0usize;
-    while count_nonzeros(&w[..]) > target {
+    let mut nonzeros = [0u64; 9];
+    let mut change = [0.0f64; 9];
+    let mut left = count_nonzeros(&w[..]);
+    nonzeros[stage] = left as u64;
+    change[stage] = change_of(matrix, n, start, &w[..]);
+    while left > target {
         let after = halving_pass(
             matrix,
             n,
@@ -43,11 +58,18 @@ fn to_target(
         );
         rng = after;
         stage += 1;
+        left = count_nonzeros(&w[..]);
+        nonzeros[stage] = left as u64;
+        change[stage] = change_of(matrix, n, start, &w[..]);
     }
-    stage
+    Path {
+        stage,
+        nonzeros,
+        change,
+    }
 }
 
-// Passes until one measures above the allowance and the cap is met; the stage that is reached. w starts as the normalized weights.
+// Passes until one measures above the allowance and the cap is met; the path to there. w and start are the normalized weights.
 fn to_allowance(
     matrix: &[f64],
     n: usize,
@@ -59,14 +81,19 @@ fn to_allowance(
     seed: u64,
     allowance: f64,
     cap: Cap,
-) -> usize
+) -> Path
     requires { ⌜ Ready (now matrix) n (now w) (now numbers) (now indices) × (bounded one (now w) ≡ true) × (now w ≡ now start)
         × (length (now next) ≡ length (now w)) × (ruleFault (Within allowance cap) ≡ 0) ⌝ }
     ensures { λ r. ⌜ Followed (columnsOf (now (matrix .entry)) n) n (now (w .entry)) seed (Within allowance cap) r (now (w .exit)) ⌝ }
 {
     let mut rng = SplitMix64::new(seed);
     let mut stage = 0usize;
-    while count_nonzeros(&w[..]) > 1 {
+    let mut nonzeros = [0u64; 9];
+    let mut change = [0.0f64; 9];
+    let mut left = count_nonzeros(&w[..]);
+    nonzeros[stage] = left as u64;
+    change[stage] = change_of(matrix, n, start, &w[..]);
+    while left > 1 {
         let t = try_pass(
             matrix,
             n,
@@ -79,19 +106,27 @@ fn to_allowance(
             allowance,
             cap,
         );
-        if t.taken {
-            stage += 1;
+        if !t.taken {
+            break;
         }
+        stage += 1;
+        left = count_nonzeros(&w[..]);
+        nonzeros[stage] = left as u64;
+        change[stage] = t.change;
         if !t.more {
             break;
         }
         let after = t.rng;
         rng = after;
     }
-    stage
+    Path {
+        stage,
+        nonzeros,
+        change,
+    }
 }
 
-// Follows the stages to the one at which the rule stops, and says which it is. w and start are the normalized weights, next is room for a pass that is
+// Follows the stages to the one at which the rule stops; the path to there. w and start are the normalized weights, next is room for a pass that is
 // only tried.
 pub fn follow(
     matrix: &[f64],
@@ -103,13 +138,13 @@ pub fn follow(
     indices: &mut [u32],
     seed: u64,
     rule: Rule,
-) -> usize
+) -> Path
     requires { ⌜ Ready (now matrix) n (now w) (now numbers) (now indices) × (bounded one (now w) ≡ true) × (now w ≡ now start)
         × (length (now next) ≡ length (now w)) × (ruleFault rule ≡ 0) ⌝ }
     ensures { λ r. ⌜ Followed (columnsOf (now (matrix .entry)) n) n (now (w .entry)) seed rule r (now (w .exit)) ⌝ }
 {
     match rule {
-        Rule::Target(t) => to_target(matrix, n, w, numbers, indices, seed, t),
+        Rule::Target(t) => to_target(matrix, n, start, w, numbers, indices, seed, t),
         Rule::Within { allowance, cap } => to_allowance(
             matrix,
             n,

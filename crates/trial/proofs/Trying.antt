@@ -13,7 +13,7 @@ use Rattle.halve.specs.Halve.{Halved}
 use Rattle.halve.specs.Handed.{Ready, halvesOf}
 use Rattle.halving.specs.Halving.{passOf}
 use Rattle.rules.specs.Rules.{meets}
-use Rattle.trial.specs.Trial.{TriedOnce, aboveAfter}
+use Rattle.trial.specs.Trial.{TriedOnce, changeAfter, aboveAfter}
 use Rattle.rules.specs.declared.Cap.{Cap}
 use Rattle.trial.specs.declared.Tried.{Tried}
 
@@ -34,24 +34,29 @@ module _ (u : ℕ → ℕ → Float) (n : ℕ) (start : List Float) (a : Float) 
   runs-on = ap (λ (h : Halved). h .rng) same-pass
 
   module _ {x : Float} (measured : x ≡ maxChange u (length start) n start v) where
-    after-is : aboveAfter u n start a w rng ≡ not (le x a)
-    after-is = ap (λ (y : Float). not (le y a)) (ap (maxChange u (length start) n start) (sym gives) ∙ sym measured)
+    change-is : x ≡ changeAfter u n start w rng
+    change-is = measured ∙ ap (maxChange u (length start) n start) gives
 
-    pub left-tried : (not (le x a) && meets cap (nonzeros w)) ≡ true → (r : Tried) → r .rng .state ≡ draws → r .taken ≡ false → r .more ≡ false
-        → TriedOnce u n start a cap w rng r w
-    left-tried ends r s t m =
+    after-is : aboveAfter u n start a w rng ≡ not (le x a)
+    after-is = ap (λ (y : Float). not (le y a)) (sym change-is)
+
+    pub left-tried : (not (le x a) && meets cap (nonzeros w)) ≡ true → (r : Tried) → r .rng .state ≡ draws → r .change ≡ x → r .taken ≡ false
+        → r .more ≡ false → TriedOnce u n start a cap w rng r w
+    left-tried ends r s d t m =
         record {
           draws = s ∙ runs-on;
+          change = d ∙ change-is;
           taken = t ∙ sym (rw after-is (rw ends));
           weights = rw t;
           more = m ∙ sym (rw t);
         }
 
     pub taken-tried : (not (le x a) && meets cap (nonzeros w)) ≡ false → (w' : List Float) → w' ≡ v → (r : Tried) → r .rng .state ≡ draws
-        → r .taken ≡ true → r .more ≡ not (not (le x a) && meets cap (nonzeros w')) → TriedOnce u n start a cap w rng r w'
-    taken-tried goes w' e r s t m =
+        → r .change ≡ x → r .taken ≡ true → r .more ≡ not (not (le x a) && meets cap (nonzeros w')) → TriedOnce u n start a cap w rng r w'
+    taken-tried goes w' e r s d t m =
         record {
           draws = s ∙ runs-on;
+          change = d ∙ change-is;
           taken = t ∙ sym (rw after-is (rw goes));
           weights = rw t (e ∙ gives);
           more = rw (t, after-is) m;

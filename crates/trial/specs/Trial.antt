@@ -15,14 +15,18 @@ use Rattle.rules.specs.Rules.{meets}
 use Rattle.rules.specs.declared.Cap.{Cap}
 use Rattle.trial.specs.declared.Tried.{Tried}
 
--- the pass from w measures above the allowance
-abbrev pub aboveAfter : (ℕ → ℕ → Float) → ℕ → List Float → Float → List Float → ℕ → Bool
-aboveAfter u n start allowance w rng = not (le (maxChange u (length start) n start (passOf plusZero u n (halvesOf w rng) .w)) allowance)
+-- how far the pass from w has moved the margins, and whether that is above the allowance
+abbrev pub changeAfter : (ℕ → ℕ → Float) → ℕ → List Float → List Float → ℕ → Float
+changeAfter u n start w rng = maxChange u (length start) n start (passOf plusZero u n (halvesOf w rng) .w)
 
--- one more pass was tried from the weights w: whether it was taken, and whether another is to be tried
+abbrev pub aboveAfter : (ℕ → ℕ → Float) → ℕ → List Float → Float → List Float → ℕ → Bool
+aboveAfter u n start allowance w rng = not (le (changeAfter u n start w rng) allowance)
+
+-- one more pass was tried from the weights w: what it measured, whether it was taken, and whether another is to be tried
 pub record TriedOnce (u : ℕ → ℕ → Float) (n : ℕ) (start : List Float) (allowance : Float) (cap : Cap)
     (w : List Float) (rng : ℕ) (r : Tried) (w' : List Float) : Type 0 where
   pub draws : r .rng .state ≡ passOf plusZero u n (halvesOf w rng) .rng
+  pub change : r .change ≡ changeAfter u n start w rng
   pub taken : r .taken ≡ not (aboveAfter u n start allowance w rng && meets cap (nonzeros w))
   pub weights : w' ≡ pick (r .taken) (passOf plusZero u n (halvesOf w rng) .w) w
   pub more : r .more ≡ (r .taken && not (aboveAfter u n start allowance w rng && meets cap (nonzeros w')))

@@ -27,9 +27,10 @@ fn ends_there(above: bool, cap: Cap, w: &[f64]) -> bool
     }
 }
 
-// How a try of one more pass ended: whether its weights were taken, and whether another is to be tried.
+// How a try of one more pass ended: what it measured, whether its weights were taken, and whether another is to be tried.
 pub struct Tried {
     pub rng: SplitMix64,
+    pub change: f64,
     pub taken: bool,
     pub more: bool,
 }
@@ -54,10 +55,12 @@ pub fn try_pass(
 {
     copy(&mut next[..], &w[..]);
     let after = halving_pass(matrix, n, &mut next[..], numbers, indices, rng);
-    let above = !(change_of(matrix, n, start, &next[..]) <= allowance);
+    let change = change_of(matrix, n, start, &next[..]);
+    let above = !(change <= allowance);
     if ends_there(above, cap, &w[..]) {
         return Tried {
             rng: after,
+            change,
             taken: false,
             more: false,
         };
@@ -66,6 +69,7 @@ pub fn try_pass(
     let ends = ends_there(above, cap, &w[..]);
     Tried {
         rng: after,
+        change,
         taken: true,
         more: !ends,
     }

@@ -24,6 +24,8 @@ pub struct Said {
     pub stage: u64,
     pub nonzeros: u64,
     pub change: f64,
+    /// Nonzeros and change of each stage from 0 to this one.
+    pub path: Vec<(u64, f64)>,
     pub weights: Vec<f64>,
     /// The original's own call gave these weights too.
     pub agrees: bool,
@@ -35,8 +37,10 @@ pub fn by_stages(columns: &[Vec<f64>], e: &Ensemble, rule: Rule) -> Said {
     let measure = |w: &[f64]| original::max_margin_change(columns, &first, w);
     let mut generator = e.seed;
     let (mut stage, mut weights) = (0, first.clone());
+    let mut path = Vec::new();
     loop {
         let nonzeros = reach::count(&weights);
+        path.push((nonzeros as u64, measure(&weights)));
         let mut next = None;
         let mut pass = || {
             let mut w = weights.clone();
@@ -56,7 +60,7 @@ pub fn by_stages(columns: &[Vec<f64>], e: &Ensemble, rule: Rule) -> Said {
                 Rule::Within(allowance, cap) => original::sparsify_within(columns, &e.weights, allowance, cap, e.seed),
             };
             let agrees = own.iter().zip(&weights).all(|(a, b)| same(*a, *b));
-            return Said { stage, nonzeros: nonzeros as u64, change: measure(&weights), weights, agrees };
+            return Said { stage, nonzeros: nonzeros as u64, change: measure(&weights), path, weights, agrees };
         }
         weights = match next {
             Some(next) => next,

@@ -1,14 +1,12 @@
 -- `sparsification::thin_on` meets its contract: the stages are followed from a copy of the weights in the output, and the scratch is wiped.
 use borrow.Author.Needs.{needs}
 use mathlib.Core.Path.{refl, sym, ap, _∙_}
+use native.Mathlib.Omega.{arith}
 use lib.ListN.{length}
 use Rattle.seq.specs.Lists.{repeated}
 use Rattle.seq.specs.Sums.{plusZero}
-use Rattle.limits.specs.Limits.{bounded}
 use Rattle.limits.specs.Matrix.{columnsOf}
-use Rattle.ieee.specs.Constants.{one}
 use Rattle.halve.proofs.Calls.{ready-still}
-use Rattle.trial.proofs.Trying.{lent-of}
 use Rattle.sparsification.proofs.Finishing.{done-from}
 use Rattle.sparsification.proofs.thin_on.Statement.{statement}
 use Rattle.sparsification.proofs.thin_on.Tie as tie
@@ -35,14 +33,11 @@ clear-requires c κs = search needs
 clear-words-requires : tie.Need-clear-words-requires
 clear-words-requires c κs = search needs
 
-finish-requires : tie.Need-finish-requires
-finish-requires c κs =
-    let at-follow = c .before .before .before .before .before .before .before .before .before .before .before .before .before .before .before .before .before in
-    let at-copy = at-follow .before .before .before .before .before .before .before in
-    let at-start = at-copy .before .before .before .before .before .before .before .before in (
-      lent-of (at-start .args .start .now) (at-start .pre .0) refl,
-      at-follow .follow .kept .1 .1 .1 .0 ∙ ap length (at-copy .copy .ensures),
-    )
+answer-for-requires : tie.Need-answer-for-requires
+answer-for-requires c κs =
+    let at-follow = c .before .before .before .before .before .before .before .before .before .before .before .before .before .before .before .before in
+    let path = at-follow .follow .ensures .path in
+    omega (arith, path .near, path .stage)
 
 same-length : tie.Need-same-length
 same-length c = search needs
@@ -58,7 +53,7 @@ same-length-4 c = search needs
 
 returns : tie.Need-returns
 returns c =
-    let at-words = c .before .before .before .before in
+    let at-words = c .before .before .before in
     let at-numbers = at-words .before .before .before .before in
     let at-follow = at-numbers .before .before .before .before .before .before .before .before .before .before in
     let at-copy = at-follow .before .before .before .before .before .before .before in
@@ -66,7 +61,7 @@ returns c =
     let a = at-start .args in
     let k = at-follow .follow .kept in
     done-from (columnsOf (a .matrix .now) (a .n)) (a .n) (a .start .now) (a .seed) (a .rule) (at-copy .copy .ensures) (at-follow .follow .ensures)
-    (a .numbers .now) _ (a .indices .now) _ (c .finish .result) (c .finish .ensures)
+    (a .numbers .now) _ (a .indices .now) _ (c .answer-for .result) (c .answer-for .ensures)
     (at-numbers .clear .ensures ∙ ap (repeated plusZero) (k .1 .1 .1 .1 .1 .0))
     (at-words .clear-words .ensures ∙ ap (repeated 0) (k .1 .1 .1 .1 .1 .1 .0))
 
@@ -78,7 +73,7 @@ thin-on-spec =
     follow-requires
     clear-requires
     clear-words-requires
-    finish-requires
+    answer-for-requires
     same-length
     same-length-2
     same-length-3

@@ -11,7 +11,7 @@ to-target-requires : tie.Need-to-target-requires
 to-target-requires c κs =
     let at-rule = c .before .before .before .before in
     let at-start = at-rule .before .before .before .before .before .before .before .before in
-    (at-start .pre .0, at-start .pre .1, target-some _ (rw (at-rule .rule .given .1) at (at-start .pre .4)))
+    (at-start .pre .0, at-start .pre .1, at-start .pre .2, target-some _ (rw (at-rule .rule .given .1) at (at-start .pre .4)))
 
 enum-known-rule-2 : tie.Need-enum-known-rule-2
 enum-known-rule-2 c = search needs

@@ -1,130 +1,185 @@
--- `stages::to_allowance` meets its contract: the loop stands on the path of the stages, at one that does not close it, and the nonzeros fall with each pass.
+-- `stages::to_allowance` meets its contract: the loop stands on the path of the stages, at one that does not close it, each is noted, and the nonzeros fall with
+-- each pass.
 use borrow.Author.Needs.{needs}
 use borrow.Author.Tests.{not-true, not-false}
+use Prim.Native.Nat.{_<_}
 use mathlib.Core.Bool.{true, false}
 use mathlib.Core.Path.{_≡_, refl, sym, ap, _∙_}
-use mathlib.Core.Logic.{⊎-elim}
 use native.Mathlib.Omega.{arith}
-use Prim.Native.Nat.{_<_}
 use lib.ListN.{length}
+use Rattle.seq.specs.Lists.{tabulate}
 use Rattle.seq.specs.Sums.{plusZero}
+use Rattle.ieee.specs.Constants.{one}
 use Rattle.limits.specs.Limits.{bounded}
 use Rattle.limits.specs.Matrix.{columnsOf}
-use Rattle.ieee.specs.Constants.{one}
+use Rattle.margins.specs.Margins.{maxChange}
 use Rattle.weights.specs.Weights.{nonzeros}
 use Rattle.halve.proofs.Calls.{ready-still}
+use Rattle.trial.proofs.Trying.{lent-of}
 use Rattle.rules.specs.declared.Rule.the-variants.{Within}
-use Rattle.seq.proofs.Choosing.{never}
 use Rattle.stages.proofs.Halting.{Falls}
 use Rattle.stages.proofs.Passing.{normal-bounded, falling}
-use Rattle.stages.proofs.Following.{OnPath, closes, on-start, opens, allowance-met, allowance-left, allowance-on, allowance-fewer}
-use Rattle.stages.proofs.Following.{allowance-goes, allowance-last, more-taken}
+use Rattle.stages.proofs.Following.{OnPath, Written, closes, on-start, opens, eight, note, note-first, noted}
+use Rattle.stages.proofs.Following.{allowance-met, allowance-left, allowance-on, allowance-fewer, allowance-goes, allowance-last, measured}
 use Rattle.stages.proofs.to_allowance.Statement.{statement}
 use Rattle.stages.proofs.to_allowance.Tie as tie
 
 abbrev Inv-loop : tie.InvT-loop
-Inv-loop matrix n start w₀ next₀ numbers₀ indices₀ seed allowance cap rng₀ stage₀ w next numbers indices rng stage =
+Inv-loop matrix n start w₀ next₀ numbers₀ indices₀ seed allowance cap rng₀ stage₀ counts₀ change₀ left₀ w next numbers indices rng stage counts change left =
     OnPath (columnsOf matrix n) n start seed (Within allowance cap) stage w (rng .state) × Falls plusZero (columnsOf matrix n) n start seed
+    × Written (columnsOf matrix n) n start seed stage counts change × (left ≡ nonzeros w)
     × (closes (columnsOf matrix n) n start seed allowance cap stage ≡ false)
     × (length next ≡ length next₀) × (length numbers ≡ length numbers₀) × (length indices ≡ length indices₀)
 
 abbrev μ-loop : tie.MeasureT-loop
-μ-loop matrix n start w₀ next₀ numbers₀ indices₀ seed allowance cap rng₀ stage₀ w next numbers indices rng stage = nonzeros w
+μ-loop matrix n start w₀ next₀ numbers₀ indices₀ seed allowance cap rng₀ stage₀ counts₀ change₀ left₀ w next numbers indices rng stage counts change left =
+    nonzeros w
 
 new-requires : tie.Need-new-requires Inv-loop μ-loop
 new-requires c κs = search needs
 
+count-nonzeros-requires : tie.Need-count-nonzeros-requires Inv-loop μ-loop
+count-nonzeros-requires c κs = search needs
+
+mul-nonzeros : tie.Need-mul-nonzeros Inv-loop μ-loop
+mul-nonzeros c = search needs
+
+array-write-nonzeros : tie.Need-array-write-nonzeros Inv-loop μ-loop
+array-write-nonzeros c = search needs
+
+change-of-requires : tie.Need-change-of-requires Inv-loop μ-loop
+change-of-requires c κs =
+    let at-start = c .before .before .before .before .before .before .before .before .before .before in
+    let same = ap length (at-start .pre .2) in
+    (lent-of (at-start .args .start .now) (at-start .pre .0) (sym same), same)
+
+mul-change : tie.Need-mul-change Inv-loop μ-loop
+mul-change c = search needs
+
+array-write-change : tie.Need-array-write-change Inv-loop μ-loop
+array-write-change c = search needs
+
 loop-holds : tie.Need-loop-holds Inv-loop μ-loop
+unfolding tabulate
 loop-holds c =
-    let at-known = c .before .before .before .before .before in
+    let at-count = c .before .before in
+    let at-new = at-count .before .before in
+    let at-known = at-new .before .before .before .before .before in
     let at-start = at-known .before .before in
     let a = at-start .args in
     let same = at-start .pre .2 in
-    let small : bounded one (a .start .now) ≡ true = rw same at (at-start .pre .1) in (
-      rw (same, c .new .ensures) (on-start (columnsOf (a .matrix .now) (a .n)) (a .n) (a .start .now) (a .seed) (Within (a .allowance) (a .cap))),
+    let few = at-start .pre .0 .few in
+    let small : bounded one (a .start .now) ≡ true = rw same at (at-start .pre .1) in
+    let on = on-start (columnsOf (a .matrix .now) (a .n)) (a .n) (a .start .now) (a .seed) (omega (arith, few, ap length same))
+    (Within (a .allowance) (a .cap)) in (
+      rw (same, at-new .new .ensures) on,
       falling (columnsOf (a .matrix .now) (a .n)) (a .n) (a .start .now) (a .seed)
-          (normal-bounded (a .start .now) (λ j l. at-known .shared-slice-known2 .given j) small) (omega (arith, at-start .pre .0 .few, ap length same)),
+          (normal-bounded (a .start .now) (λ j l. at-known .shared-slice-known2 .given j) small) (omega (arith, few, ap length same)),
+      note-first (columnsOf (a .matrix .now) (a .n)) (a .n) (a .start .now) (a .seed) (omega (arith, few, ap length same))
+          (at-count .count-nonzeros .ensures ∙ ap nonzeros same)
+          (c .change-of .ensures ∙ ap (maxChange (columnsOf (a .matrix .now) (a .n)) (length (a .start .now)) (a .n) (a .start .now)) same),
+      at-count .count-nonzeros .ensures,
       opens (columnsOf (a .matrix .now) (a .n)) (a .n) (a .start .now) (a .seed) (a .allowance) (a .cap),
       refl,
       refl,
       refl,
     )
 
-count-nonzeros-requires : tie.Need-count-nonzeros-requires Inv-loop μ-loop
-count-nonzeros-requires c κs = search needs
-
 try-pass-requires : tie.Need-try-pass-requires Inv-loop μ-loop
 try-pass-requires c κs =
     let at-test = c .before .before .before .before in
-    let at-count = at-test .before in
-    let at-loop = at-count .before .before in
-    let at-start = at-loop .before .before .before .before .before .before .before .before in
+    let at-loop = at-test .before in
+    let at-start = at-loop .before .before .before .before .before .before .before .before .before .before .before .before in
     let inv = at-loop .loop .inv in
     let same = ap length (at-start .pre .2) in
     let long = inv .0 .long in (
-      ready-still (at-start .pre .0) (long ∙ sym same) (inv .4) (inv .5),
+      ready-still (at-start .pre .0) (long ∙ sym same) (inv .6) (inv .7),
       sym long,
-      inv .3 ∙ at-start .pre .3 ∙ same ∙ sym long,
-      omega (arith, at-count .count-nonzeros .ensures, at-test .if1 .taken),
+      inv .5 ∙ at-start .pre .3 ∙ same ∙ sym long,
+      omega (arith, inv .3, at-test .loop-test .taken),
     )
 
 add-stage : tie.Need-add-stage Inv-loop μ-loop
 add-stage c =
-    let at-loop = c .before .before .before .before .before .before .before .before .before .before .before .before .before .before .before .before .before in
-    let at-start = at-loop .before .before .before .before .before .before .before .before in
-    omega (arith, at-loop .loop .inv .0 .short, at-start .pre .0 .few, ap length (at-start .pre .2))
+    let at-loop = c .before .before .before .before .before .before .before .before .before .before .before .before .before .before .before .before in
+    omega (arith, at-loop .loop .inv .0 .near)
+
+count-nonzeros-requires-2 : tie.Need-count-nonzeros-requires-2 Inv-loop μ-loop
+count-nonzeros-requires-2 c κs = search needs
+
+mul-nonzeros-2 : tie.Need-mul-nonzeros-2 Inv-loop μ-loop
+mul-nonzeros-2 c =
+    let at-loop = c .before .before .before .before .before .before .before .before .before .before .before .before .before .before .before .before .before .before in
+    omega (arith, at-loop .loop .inv .0 .near)
+
+array-write-nonzeros-2 : tie.Need-array-write-nonzeros-2 Inv-loop μ-loop
+array-write-nonzeros-2 c =
+    let at-test = c .before .before .before .before .before .before .before .before .before .before .before .before .before .before .before .before .before in
+    let at-loop = at-test .before in
+    let inv = at-loop .loop .inv in
+    omega (arith, eight _ _ (inv .0 .room) (omega (arith, inv .3, at-test .loop-test .taken)))
+
+mul-change-2 : tie.Need-mul-change-2 Inv-loop μ-loop
+mul-change-2 c =
+    let at-loop = c .before .before .before .before .before .before .before .before .before .before .before .before .before .before .before .before .before .before in
+    omega (arith, at-loop .loop .inv .0 .near)
+
+array-write-change-2 : tie.Need-array-write-change-2 Inv-loop μ-loop
+array-write-change-2 c =
+    let at-test = c .before .before .before .before .before .before .before .before .before .before .before .before .before .before .before .before .before in
+    let at-loop = at-test .before in
+    let inv = at-loop .loop .inv in
+    omega (arith, eight _ _ (inv .0 .room) (omega (arith, inv .3, at-test .loop-test .taken)))
 
 loop-less : tie.Need-loop-less Inv-loop μ-loop
 loop-less c =
-    let at-more = c .before in
-    let at-try = at-more .before .before .before .before .before .before .before .before .before .before .before in
+    let at-taken = c .before .before .before .before .before in
+    let at-try = at-taken .before .before .before .before .before .before .before .before .before .before in
     let at-test = at-try .before .before .before .before .before in
-    let at-count = at-test .before in
-    let at-loop = at-count .before .before in
-    let at-start = at-loop .before .before .before .before .before .before .before .before in
+    let at-loop = at-test .before in
+    let at-start = at-loop .before .before .before .before .before .before .before .before .before .before .before .before in
     let a = at-start .args in
     let inv = at-loop .loop .inv in
-    let some : 1 < nonzeros (at-loop .loop .w) = rw (← at-count .count-nonzeros .ensures) (at-test .if1 .taken) in
-    let more = not-false (at-try .try-pass .result .more) (at-more .if3 .left) in
-    let taken = more-taken (columnsOf (a .matrix .now) (a .n)) (a .n) (a .start .now) (a .seed) (inv .1) (at-start .pre .4) (inv .0) (inv .2) some
-    (at-try .try-pass .ensures) more in
-    allowance-fewer (columnsOf (a .matrix .now) (a .n)) (a .n) (a .start .now) (a .seed) (inv .1) (at-start .pre .4) (inv .0) (inv .2) some
+    let some : 1 < nonzeros (at-loop .loop .w) = omega (arith, inv .3, at-test .loop-test .taken) in
+    let taken = not-false (at-try .try-pass .result .taken) (at-taken .if1 .left) in
+    allowance-fewer (columnsOf (a .matrix .now) (a .n)) (a .n) (a .start .now) (a .seed) (inv .1) (at-start .pre .4) (inv .0) (inv .4) some
     (at-try .try-pass .ensures) taken
 
 loop-again : tie.Need-loop-again Inv-loop μ-loop
 loop-again c =
     let at-more = c .before in
-    let at-taken = at-more .before .before in
-    let at-try = at-taken .before .before .before .before .before .before .before .before .before in
+    let at-count = at-more .before .before in
+    let at-taken = at-count .before .before in
+    let at-try = at-taken .before .before .before .before .before .before .before .before .before .before in
     let at-test = at-try .before .before .before .before .before in
-    let at-count = at-test .before in
-    let at-loop = at-count .before .before in
-    let at-start = at-loop .before .before .before .before .before .before .before .before in
+    let at-loop = at-test .before in
+    let at-start = at-loop .before .before .before .before .before .before .before .before .before .before .before .before in
     let a = at-start .args in
     let inv = at-loop .loop .inv in
     let k = at-try .try-pass .kept in
-    let some : 1 < nonzeros (at-loop .loop .w) = rw (← at-count .count-nonzeros .ensures) (at-test .if1 .taken) in
-    let more = not-false (at-try .try-pass .result .more) (at-more .if3 .left) in
-    let taken = more-taken (columnsOf (a .matrix .now) (a .n)) (a .n) (a .start .now) (a .seed) (inv .1) (at-start .pre .4) (inv .0) (inv .2) some
-    (at-try .try-pass .ensures) more in
-    ⊎-elim
-    (λ v. rw (v .1) (
-      allowance-on (columnsOf (a .matrix .now) (a .n)) (a .n) (a .start .now) (a .seed) (inv .1) (at-start .pre .4) (inv .0) (inv .2) some
-          (at-try .try-pass .ensures) taken,
+    let some : 1 < nonzeros (at-loop .loop .w) = omega (arith, inv .3, at-test .loop-test .taken) in
+    let taken = not-false (at-try .try-pass .result .taken) (at-taken .if1 .left) in
+    let more = not-false (at-try .try-pass .result .more) (at-more .if2 .left) in
+    let on = allowance-on (columnsOf (a .matrix .now) (a .n)) (a .n) (a .start .now) (a .seed) (inv .1) (at-start .pre .4) (inv .0) (inv .4) some
+    (at-try .try-pass .ensures) taken in (
+      on,
       inv .1,
-      allowance-goes (columnsOf (a .matrix .now) (a .n)) (a .n) (a .start .now) (a .seed) (inv .1) (at-start .pre .4) (inv .0) (inv .2) some
+      note (columnsOf (a .matrix .now) (a .n)) (a .n) (a .start .now) (a .seed) on (at-count .count-nonzeros2 .ensures)
+          (measured (columnsOf (a .matrix .now) (a .n)) (a .n) (a .start .now) (a .seed) (inv .1) (at-start .pre .4) (inv .0) (inv .4) some
+          (at-try .try-pass .ensures) taken)
+          (inv .2 .counts) (inv .2 .moves),
+      at-count .count-nonzeros2 .ensures,
+      allowance-goes (columnsOf (a .matrix .now) (a .n)) (a .n) (a .start .now) (a .seed) (inv .1) (at-start .pre .4) (inv .0) (inv .4) some
           (at-try .try-pass .ensures) taken more,
-      k .1 .1 .1 .1 .0 ∙ inv .3,
-      k .1 .1 .1 .1 .1 .0 ∙ inv .4,
-      k .1 .1 .1 .1 .1 .1 .0 ∙ inv .5,
-    ))
-    (λ v. never (at-try .try-pass .result .taken) taken (v .0 .left))
-    (at-taken .if2 .came)
+      k .1 .1 .1 .1 .0 ∙ inv .5,
+      k .1 .1 .1 .1 .1 .0 ∙ inv .6,
+      k .1 .1 .1 .1 .1 .1 .0 ∙ inv .7,
+    )
 
 same-length : tie.Need-same-length Inv-loop μ-loop
 same-length c =
-    let at-loop = c .before .before .before in
-    let at-start = at-loop .before .before .before .before .before .before .before .before in
+    let at-loop = c .before in
+    let at-start = at-loop .before .before .before .before .before .before .before .before .before .before .before .before in
     at-loop .loop .inv .0 .long ∙ sym (ap length (at-start .pre .2))
 
 same-length-2 : tie.Need-same-length-2 Inv-loop μ-loop
@@ -138,20 +193,20 @@ same-length-4 c = search needs
 
 returns : tie.Need-returns Inv-loop μ-loop
 returns c =
-    let at-count = c .before in
-    let at-loop = at-count .before .before in
-    let at-start = at-loop .before .before .before .before .before .before .before .before in
+    let at-loop = c .before in
+    let at-start = at-loop .before .before .before .before .before .before .before .before .before .before .before .before in
     let a = at-start .args in
     let inv = at-loop .loop .inv in
     rw (at-start .pre .2)
     (allowance-met (columnsOf (a .matrix .now) (a .n)) (a .n) (a .start .now) (a .seed) (inv .1) (at-start .pre .4) (inv .0)
-    (rw (← at-count .count-nonzeros .ensures) (c .if1 .left)) refl)
+    (omega (arith, inv .3, c .loop-test .left))
+    (noted (columnsOf (a .matrix .now) (a .n)) (a .n) (a .start .now) (a .seed) (inv .0 .near) (inv .2) _ refl refl refl))
 
 same-length-5 : tie.Need-same-length-5 Inv-loop μ-loop
 same-length-5 c =
-    let at-try = c .before .before .before .before .before .before .before .before .before .before .before in
-    let at-loop = at-try .before .before .before .before .before .before .before .before in
-    let at-start = at-loop .before .before .before .before .before .before .before .before in
+    let at-try = c .before .before .before .before .before .before .before .before .before .before in
+    let at-loop = at-try .before .before .before .before .before .before in
+    let at-start = at-loop .before .before .before .before .before .before .before .before .before .before .before .before in
     at-try .try-pass .kept .1 .1 .1 .0 ∙ at-loop .loop .inv .0 .long ∙ sym (ap length (at-start .pre .2))
 
 same-length-6 : tie.Need-same-length-6 Inv-loop μ-loop
@@ -165,23 +220,58 @@ same-length-8 c = search needs
 
 returns-2 : tie.Need-returns-2 Inv-loop μ-loop
 returns-2 c =
-    let at-taken = c .before .before in
-    let at-try = at-taken .before .before .before .before .before .before .before .before .before in
+    let at-try = c .before .before .before .before .before .before .before .before .before .before in
     let at-test = at-try .before .before .before .before .before in
-    let at-count = at-test .before in
-    let at-loop = at-count .before .before in
-    let at-start = at-loop .before .before .before .before .before .before .before .before in
+    let at-loop = at-test .before in
+    let at-start = at-loop .before .before .before .before .before .before .before .before .before .before .before .before in
     let a = at-start .args in
     let inv = at-loop .loop .inv in
-    let some : 1 < nonzeros (at-loop .loop .w) = rw (← at-count .count-nonzeros .ensures) (at-test .if1 .taken) in
-    let last = not-true (at-try .try-pass .result .more) (c .if3 .taken) in
+    let some : 1 < nonzeros (at-loop .loop .w) = omega (arith, inv .3, at-test .loop-test .taken) in
+    let left = not-true (at-try .try-pass .result .taken) (c .if1 .taken) in
     rw (at-start .pre .2)
-    (⊎-elim
-    (λ v. allowance-last (columnsOf (a .matrix .now) (a .n)) (a .n) (a .start .now) (a .seed) (inv .1) (at-start .pre .4) (inv .0) (inv .2) some
-    (at-try .try-pass .ensures) (v .0 .taken) last (v .1))
-    (λ v. allowance-left (columnsOf (a .matrix .now) (a .n)) (a .n) (a .start .now) (a .seed) (inv .1) (at-start .pre .4) (inv .0) (inv .2) some
-    (at-try .try-pass .ensures) (v .0 .left) (v .1))
-    (at-taken .if2 .came))
+    (allowance-left (columnsOf (a .matrix .now) (a .n)) (a .n) (a .start .now) (a .seed) (inv .1) (at-start .pre .4) (inv .0) (inv .4) some
+    (at-try .try-pass .ensures) left
+    (noted (columnsOf (a .matrix .now) (a .n)) (a .n) (a .start .now) (a .seed) (inv .0 .near) (inv .2) _ refl refl refl))
+
+same-length-9 : tie.Need-same-length-9 Inv-loop μ-loop
+same-length-9 c =
+    let at-try = c .before .before .before .before .before .before .before .before .before .before .before .before .before .before in
+    let at-loop = at-try .before .before .before .before .before .before in
+    let at-start = at-loop .before .before .before .before .before .before .before .before .before .before .before .before in
+    at-try .try-pass .kept .1 .1 .1 .0 ∙ at-loop .loop .inv .0 .long ∙ sym (ap length (at-start .pre .2))
+
+same-length-10 : tie.Need-same-length-10 Inv-loop μ-loop
+same-length-10 c = search needs
+
+same-length-11 : tie.Need-same-length-11 Inv-loop μ-loop
+same-length-11 c = search needs
+
+same-length-12 : tie.Need-same-length-12 Inv-loop μ-loop
+same-length-12 c = search needs
+
+returns-3 : tie.Need-returns-3 Inv-loop μ-loop
+returns-3 c =
+    let at-count = c .before .before in
+    let at-taken = at-count .before .before in
+    let at-try = at-taken .before .before .before .before .before .before .before .before .before .before in
+    let at-test = at-try .before .before .before .before .before in
+    let at-loop = at-test .before in
+    let at-start = at-loop .before .before .before .before .before .before .before .before .before .before .before .before in
+    let a = at-start .args in
+    let inv = at-loop .loop .inv in
+    let some : 1 < nonzeros (at-loop .loop .w) = omega (arith, inv .3, at-test .loop-test .taken) in
+    let taken = not-false (at-try .try-pass .result .taken) (at-taken .if1 .left) in
+    let last = not-true (at-try .try-pass .result .more) (c .if2 .taken) in
+    let on = allowance-on (columnsOf (a .matrix .now) (a .n)) (a .n) (a .start .now) (a .seed) (inv .1) (at-start .pre .4) (inv .0) (inv .4) some
+    (at-try .try-pass .ensures) taken in
+    let path = note (columnsOf (a .matrix .now) (a .n)) (a .n) (a .start .now) (a .seed) on (at-count .count-nonzeros2 .ensures)
+    (measured (columnsOf (a .matrix .now) (a .n)) (a .n) (a .start .now) (a .seed) (inv .1) (at-start .pre .4) (inv .0) (inv .4) some
+    (at-try .try-pass .ensures) taken)
+    (inv .2 .counts) (inv .2 .moves) in
+    rw (at-start .pre .2)
+    (allowance-last (columnsOf (a .matrix .now) (a .n)) (a .n) (a .start .now) (a .seed) (inv .1) (at-start .pre .4) (inv .0) (inv .4) some
+    (at-try .try-pass .ensures) taken last
+    (noted (columnsOf (a .matrix .now) (a .n)) (a .n) (a .start .now) (a .seed) (on .near) path _ refl refl refl))
 
 pub to-allowance-spec : {M : Type 1} → statement M
 to-allowance-spec =
@@ -190,10 +280,20 @@ to-allowance-spec =
     Inv-loop
     μ-loop
     new-requires
-    loop-holds
     count-nonzeros-requires
+    mul-nonzeros
+    array-write-nonzeros
+    change-of-requires
+    mul-change
+    array-write-change
+    loop-holds
     try-pass-requires
     add-stage
+    count-nonzeros-requires-2
+    mul-nonzeros-2
+    array-write-nonzeros-2
+    mul-change-2
+    array-write-change-2
     loop-less
     loop-again
     same-length
@@ -205,4 +305,9 @@ to-allowance-spec =
     same-length-6
     same-length-7
     same-length-8
-    returns-2)
+    returns-2
+    same-length-9
+    same-length-10
+    same-length-11
+    same-length-12
+    returns-3)

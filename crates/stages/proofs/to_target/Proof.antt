@@ -1,90 +1,172 @@
--- `stages::to_target` meets its contract: the loop stands on the path of the stages, none of which has stopped, and the nonzeros fall with each pass.
+-- `stages::to_target` meets its contract: the loop stands on the path of the stages, none of which has stopped, each is noted, and the nonzeros fall with each pass.
 use borrow.Author.Needs.{needs}
-use mathlib.Core.Path.{_≡_, refl, _∙_}
+use Prim.Native.Nat.{_<_}
+use mathlib.Core.Bool.{true}
+use mathlib.Core.Path.{_≡_, refl, sym, ap, _∙_}
 use native.Mathlib.Omega.{arith}
 use lib.ListN.{length}
+use Rattle.seq.specs.Lists.{tabulate}
 use Rattle.seq.specs.Sums.{plusZero}
+use Rattle.ieee.specs.Constants.{one}
+use Rattle.limits.specs.Limits.{bounded}
 use Rattle.limits.specs.Matrix.{columnsOf}
+use Rattle.margins.specs.Margins.{maxChange}
 use Rattle.weights.specs.Weights.{nonzeros}
 use Rattle.halve.proofs.Calls.{ready-still}
+use Rattle.trial.proofs.Trying.{lent-of}
 use Rattle.rules.specs.declared.Rule.the-variants.{Target}
 use Rattle.stages.proofs.Halting.{Falls}
 use Rattle.stages.proofs.Passing.{normal-bounded, falling}
-use Rattle.stages.proofs.Following.{OnPath, on-start, target-met, target-next, target-fewer}
+use Rattle.stages.proofs.Following.{OnPath, Written, on-start, eight, note, note-first, noted, target-met, target-next, target-fewer}
 use Rattle.stages.proofs.to_target.Statement.{statement}
 use Rattle.stages.proofs.to_target.Tie as tie
 
 abbrev Inv-loop : tie.InvT-loop
-Inv-loop matrix n w₀ numbers₀ indices₀ seed target rng₀ stage₀ w numbers indices rng stage =
-    OnPath (columnsOf matrix n) n w₀ seed (Target target) stage w (rng .state) × Falls plusZero (columnsOf matrix n) n w₀ seed
+Inv-loop matrix n start w₀ numbers₀ indices₀ seed target rng₀ stage₀ counts₀ change₀ left₀ w numbers indices rng stage counts change left =
+    OnPath (columnsOf matrix n) n start seed (Target target) stage w (rng .state) × Falls plusZero (columnsOf matrix n) n start seed
+    × Written (columnsOf matrix n) n start seed stage counts change × (left ≡ nonzeros w)
     × (length numbers ≡ length numbers₀) × (length indices ≡ length indices₀)
 
 abbrev μ-loop : tie.MeasureT-loop
-μ-loop matrix n w₀ numbers₀ indices₀ seed target rng₀ stage₀ w numbers indices rng stage = nonzeros w
+μ-loop matrix n start w₀ numbers₀ indices₀ seed target rng₀ stage₀ counts₀ change₀ left₀ w numbers indices rng stage counts change left = nonzeros w
 
 new-requires : tie.Need-new-requires Inv-loop μ-loop
 new-requires c κs = search needs
 
+count-nonzeros-requires : tie.Need-count-nonzeros-requires Inv-loop μ-loop
+count-nonzeros-requires c κs = search needs
+
+mul-nonzeros : tie.Need-mul-nonzeros Inv-loop μ-loop
+mul-nonzeros c = search needs
+
+array-write-nonzeros : tie.Need-array-write-nonzeros Inv-loop μ-loop
+array-write-nonzeros c = search needs
+
+change-of-requires : tie.Need-change-of-requires Inv-loop μ-loop
+change-of-requires c κs =
+    let at-start = c .before .before .before .before .before .before .before .before .before in
+    let same = ap length (at-start .pre .2) in
+    (lent-of (at-start .args .start .now) (at-start .pre .0) (sym same), same)
+
+mul-change : tie.Need-mul-change Inv-loop μ-loop
+mul-change c = search needs
+
+array-write-change : tie.Need-array-write-change Inv-loop μ-loop
+array-write-change c = search needs
+
 loop-holds : tie.Need-loop-holds Inv-loop μ-loop
+unfolding tabulate
 loop-holds c =
-    let at-known = c .before .before .before in
+    let at-count = c .before .before in
+    let at-new = at-count .before .before in
+    let at-known = at-new .before .before .before .before in
     let at-start = at-known .before .before in
-    let a = at-start .args in (
-      rw (c .new .ensures) (on-start (columnsOf (a .matrix .now) (a .n)) (a .n) (a .w .now) (a .seed) (Target (a .target))),
-      falling (columnsOf (a .matrix .now) (a .n)) (a .n) (a .w .now) (a .seed)
-          (normal-bounded (a .w .now) (λ j l. at-known .slice-known .given j) (at-start .pre .1)) (at-start .pre .0 .few),
+    let a = at-start .args in
+    let same = at-start .pre .2 in
+    let few = at-start .pre .0 .few in
+    let small : bounded one (a .start .now) ≡ true = rw same at (at-start .pre .1) in
+    let on = on-start (columnsOf (a .matrix .now) (a .n)) (a .n) (a .start .now) (a .seed) (omega (arith, few, ap length same)) (Target (a .target)) in (
+      rw (same, at-new .new .ensures) on,
+      falling (columnsOf (a .matrix .now) (a .n)) (a .n) (a .start .now) (a .seed)
+          (normal-bounded (a .start .now) (λ j l. at-known .shared-slice-known2 .given j) small) (omega (arith, few, ap length same)),
+      note-first (columnsOf (a .matrix .now) (a .n)) (a .n) (a .start .now) (a .seed) (omega (arith, few, ap length same))
+          (at-count .count-nonzeros .ensures ∙ ap nonzeros same)
+          (c .change-of .ensures ∙ ap (maxChange (columnsOf (a .matrix .now) (a .n)) (length (a .start .now)) (a .n) (a .start .now)) same),
+      at-count .count-nonzeros .ensures,
       refl,
       refl,
     )
-
-count-nonzeros-requires : tie.Need-count-nonzeros-requires Inv-loop μ-loop
-count-nonzeros-requires c κs = search needs
 
 halving-pass-requires : tie.Need-halving-pass-requires Inv-loop μ-loop
 halving-pass-requires c κs =
     let at-test = c .before .before .before in
-    let at-count = at-test .before in
-    let at-loop = at-count .before .before in
-    let at-start = at-loop .before .before .before .before .before .before in (
-      ready-still (at-start .pre .0) (at-loop .loop .inv .0 .long) (at-loop .loop .inv .2) (at-loop .loop .inv .3),
-      omega (arith, at-count .count-nonzeros .ensures, at-test .if1 .taken, at-start .pre .2),
+    let at-loop = at-test .before in
+    let at-start = at-loop .before .before .before .before .before .before .before .before .before .before .before in
+    let inv = at-loop .loop .inv in (
+      ready-still (at-start .pre .0) (inv .0 .long ∙ sym (ap length (at-start .pre .2))) (inv .4) (inv .5),
+      omega (arith, inv .3, at-test .loop-test .taken, at-start .pre .3),
     )
 
 add-stage : tie.Need-add-stage Inv-loop μ-loop
 add-stage c =
+    let at-loop = c .before .before .before .before .before .before .before .before .before .before .before in
+    omega (arith, at-loop .loop .inv .0 .near)
+
+count-nonzeros-requires-2 : tie.Need-count-nonzeros-requires-2 Inv-loop μ-loop
+count-nonzeros-requires-2 c κs = search needs
+
+mul-nonzeros-2 : tie.Need-mul-nonzeros-2 Inv-loop μ-loop
+mul-nonzeros-2 c =
     let at-loop = c .before .before .before .before .before .before .before .before .before .before .before .before .before in
-    let at-start = at-loop .before .before .before .before .before .before in
-    omega (arith, at-loop .loop .inv .0 .short, at-start .pre .0 .few)
+    omega (arith, at-loop .loop .inv .0 .near)
+
+array-write-nonzeros-2 : tie.Need-array-write-nonzeros-2 Inv-loop μ-loop
+array-write-nonzeros-2 c =
+    let at-test = c .before .before .before .before .before .before .before .before .before .before .before .before in
+    let at-loop = at-test .before in
+    let at-start = at-loop .before .before .before .before .before .before .before .before .before .before .before in
+    let inv = at-loop .loop .inv in
+    omega (arith, eight _ _ (inv .0 .room) (omega (arith, inv .3, at-test .loop-test .taken, at-start .pre .3)))
+
+change-of-requires-2 : tie.Need-change-of-requires-2 Inv-loop μ-loop
+change-of-requires-2 c κs =
+    let at-pass = c .before .before .before .before .before .before .before .before .before in
+    let at-loop = at-pass .before .before .before .before .before in
+    let at-start = at-loop .before .before .before .before .before .before .before .before .before .before .before in (
+      lent-of (at-start .args .start .now) (at-start .pre .0) (sym (ap length (at-start .pre .2))),
+      at-pass .halving-pass .kept .1 .1 .0 ∙ at-loop .loop .inv .0 .long,
+    )
+
+mul-change-2 : tie.Need-mul-change-2 Inv-loop μ-loop
+mul-change-2 c =
+    let at-loop = c .before .before .before .before .before .before .before .before .before .before .before .before .before .before .before in
+    omega (arith, at-loop .loop .inv .0 .near)
+
+array-write-change-2 : tie.Need-array-write-change-2 Inv-loop μ-loop
+array-write-change-2 c =
+    let at-test = c .before .before .before .before .before .before .before .before .before .before .before .before .before .before in
+    let at-loop = at-test .before in
+    let at-start = at-loop .before .before .before .before .before .before .before .before .before .before .before in
+    let inv = at-loop .loop .inv in
+    omega (arith, eight _ _ (inv .0 .room) (omega (arith, inv .3, at-test .loop-test .taken, at-start .pre .3)))
 
 loop-less : tie.Need-loop-less Inv-loop μ-loop
 loop-less c =
-    let at-pass = c .before .before .before .before .before .before in
+    let at-pass = c .before .before .before .before .before .before .before .before .before .before in
     let at-test = at-pass .before .before .before .before in
-    let at-count = at-test .before in
-    let at-loop = at-count .before .before in
-    let at-start = at-loop .before .before .before .before .before .before in
+    let at-loop = at-test .before in
+    let at-start = at-loop .before .before .before .before .before .before .before .before .before .before .before in
     let a = at-start .args in
-    target-fewer (columnsOf (a .matrix .now) (a .n)) (a .n) (a .w .now) (a .seed) (at-loop .loop .inv .1) (at-start .pre .2) (at-loop .loop .inv .0)
-    (rw (← at-count .count-nonzeros .ensures) (at-test .if1 .taken)) (at-pass .halving-pass .ensures)
+    let inv = at-loop .loop .inv in
+    target-fewer (columnsOf (a .matrix .now) (a .n)) (a .n) (a .start .now) (a .seed) (inv .1) (at-start .pre .3) (inv .0)
+    (omega (arith, inv .3, at-test .loop-test .taken)) (at-pass .halving-pass .ensures)
 
 loop-again : tie.Need-loop-again Inv-loop μ-loop
 loop-again c =
-    let at-pass = c .before .before .before .before .before .before in
+    let at-count = c .before .before in
+    let at-pass = at-count .before .before .before .before .before .before .before .before in
     let at-test = at-pass .before .before .before .before in
-    let at-count = at-test .before in
-    let at-loop = at-count .before .before in
-    let at-start = at-loop .before .before .before .before .before .before in
+    let at-loop = at-test .before in
+    let at-start = at-loop .before .before .before .before .before .before .before .before .before .before .before in
     let a = at-start .args in
-    let k = at-pass .halving-pass .kept in (
-      target-next (columnsOf (a .matrix .now) (a .n)) (a .n) (a .w .now) (a .seed) (at-loop .loop .inv .1) (at-start .pre .2) (at-loop .loop .inv .0)
-          (rw (← at-count .count-nonzeros .ensures) (at-test .if1 .taken)) (at-pass .halving-pass .ensures),
-      at-loop .loop .inv .1,
-      k .1 .1 .1 .0 ∙ at-loop .loop .inv .2,
-      k .1 .1 .1 .1 .0 ∙ at-loop .loop .inv .3,
+    let inv = at-loop .loop .inv in
+    let k = at-pass .halving-pass .kept in
+    let on = target-next (columnsOf (a .matrix .now) (a .n)) (a .n) (a .start .now) (a .seed) (inv .1) (at-start .pre .3) (inv .0)
+    (omega (arith, inv .3, at-test .loop-test .taken)) (at-pass .halving-pass .ensures) in (
+      on,
+      inv .1,
+      note (columnsOf (a .matrix .now) (a .n)) (a .n) (a .start .now) (a .seed) on (at-count .count-nonzeros2 .ensures) (c .change-of2 .ensures)
+          (inv .2 .counts) (inv .2 .moves),
+      at-count .count-nonzeros2 .ensures,
+      k .1 .1 .1 .0 ∙ inv .4,
+      k .1 .1 .1 .1 .0 ∙ inv .5,
     )
 
 same-length : tie.Need-same-length Inv-loop μ-loop
-same-length c = search needs
+same-length c =
+    let at-loop = c .before in
+    let at-start = at-loop .before .before .before .before .before .before .before .before .before .before .before in
+    at-loop .loop .inv .0 .long ∙ sym (ap length (at-start .pre .2))
 
 same-length-2 : tie.Need-same-length-2 Inv-loop μ-loop
 same-length-2 c = search needs
@@ -94,12 +176,14 @@ same-length-3 c = search needs
 
 returns : tie.Need-returns Inv-loop μ-loop
 returns c =
-    let at-count = c .before in
-    let at-loop = at-count .before .before in
-    let at-start = at-loop .before .before .before .before .before .before in
+    let at-loop = c .before in
+    let at-start = at-loop .before .before .before .before .before .before .before .before .before .before .before in
     let a = at-start .args in
-    target-met (columnsOf (a .matrix .now) (a .n)) (a .n) (a .w .now) (a .seed) (at-loop .loop .inv .1) (at-start .pre .2) (at-loop .loop .inv .0)
-    (rw (← at-count .count-nonzeros .ensures) (c .if1 .left)) refl
+    let inv = at-loop .loop .inv in
+    rw (at-start .pre .2)
+    (target-met (columnsOf (a .matrix .now) (a .n)) (a .n) (a .start .now) (a .seed) (inv .1) (at-start .pre .3) (inv .0)
+    (omega (arith, inv .3, c .loop-test .left))
+    (noted (columnsOf (a .matrix .now) (a .n)) (a .n) (a .start .now) (a .seed) (inv .0 .near) (inv .2) _ refl refl refl))
 
 pub to-target-spec : {M : Type 1} → statement M
 to-target-spec =
@@ -108,10 +192,21 @@ to-target-spec =
     Inv-loop
     μ-loop
     new-requires
-    loop-holds
     count-nonzeros-requires
+    mul-nonzeros
+    array-write-nonzeros
+    change-of-requires
+    mul-change
+    array-write-change
+    loop-holds
     halving-pass-requires
     add-stage
+    count-nonzeros-requires-2
+    mul-nonzeros-2
+    array-write-nonzeros-2
+    change-of-requires-2
+    mul-change-2
+    array-write-change-2
     loop-less
     loop-again
     same-length

@@ -52,7 +52,7 @@ returns c =
     let a = at-start .args in
     left-tried (columnsOf (a .matrix .now) (a .n)) (a .n) (a .start .now) (a .allowance) (a .cap) (a .w .now) (a .rng .state)
     (at-copy .copy .ensures) (at-pass .halving-pass .ensures) (at-change .change-of .ensures)
-    (sym (at-ends .ends-there .ensures) ∙ c .if1 .taken) _ refl refl refl
+    (sym (at-ends .ends-there .ensures) ∙ c .if1 .taken) _ refl refl refl refl
 
 copy-requires-2 : tie.Need-copy-requires-2
 copy-requires-2 c κs =
@@ -87,7 +87,7 @@ returns-2 c =
     let a = at-start .args in
     taken-tried (columnsOf (a .matrix .now) (a .n)) (a .n) (a .start .now) (a .allowance) (a .cap) (a .w .now) (a .rng .state)
     (at-copy .copy .ensures) (at-pass .halving-pass .ensures) (at-change .change-of .ensures)
-    (sym (at-ends .ends-there .ensures) ∙ at-goes .if1 .left) _ (at-back .copy2 .ensures) _ refl refl (ap not (c .ends-there2 .ensures))
+    (sym (at-ends .ends-there .ensures) ∙ at-goes .if1 .left) _ (at-back .copy2 .ensures) _ refl refl refl (ap not (c .ends-there2 .ensures))
 
 pub try-pass-spec : {M : Type 1} → statement M
 try-pass-spec =

@@ -1,0 +1,78 @@
+-- One accepted job: it keeps what its rule asks for, and the path in its answer. There are at most nine stages, each pass leaves at most half of the nonzeros, rounded
+-- down, so that they fall strictly, and the single fields are the returned stage's entry.
+use Prim.Native.Nat.{ℕ, suc, _*_, _≤_, _<_}
+use mathlib.Core.Path.{_≡_, sym, ap, _∙_}
+use mathlib.Core.Bool.{true}
+use mathlib.Core.List.{List}
+use native.Mathlib.Omega.{arith}
+use lib.ListN.{length, getD}
+use lib.Ieee.{Float, nan, binary64}
+use Rattle.seq.specs.Sums.{plusZero, at}
+use Rattle.limits.specs.Matrix.{columnsOf}
+use Rattle.ieee.proofs.Normalised.{Normal}
+use Rattle.weights.specs.Weights.{normalized}
+use Rattle.rules.specs.declared.Rule.{Rule}
+use Rattle.stages.specs.Stages.{stageOf, movedBy}
+use Rattle.stages.specs.Stopping.{entriesAt}
+use Rattle.stages.proofs.Halting.{Falls, leads}
+use Rattle.stages.proofs.Passing.{falling}
+use Rattle.stages.proofs.Following.{path-at, nine-stages}
+use Rattle.sparsification.specs.Answers.{answerAt, stopFor, Thinned}
+use Rattle.sparsification.specs.Demand.{keeps}
+use Rattle.sparsification.specs.declared.Answer.{Answer}
+use Rattle.sparsification.proofs.Accepting.{Accepted, accepted, number-none, answer-stage}
+use Rattle.sparsification.proofs.DemandThree.{Doubles, start-normal, start-few, kept-there}
+
+module _ {rule : Rule} {seed : ℕ} {u : List Float} {m n : ℕ} {w output numbers : List Float} {indices : List ℕ}
+    {r : Answer} {output' numbers' : List Float} {indices' : List ℕ}
+    (job : Thinned rule seed u m n w output numbers indices r output' numbers' indices') (doubles : Doubles w) (zero : r .number ≡ 0) where
+  abbrev start : List Float
+  start = normalized plusZero w
+
+  abbrev stop : ℕ
+  stop = stopFor u n w seed rule
+
+  fine : Accepted rule u m n w (length output) (length numbers) (length indices)
+  fine = accepted rule u m n w (length output) (length numbers) (length indices) (number-none job zero)
+
+  normal : Normal binary64 (length start) (at start)
+  normal = start-normal doubles fine
+
+  falls : Falls plusZero (columnsOf u n) n start seed
+  falls = falling (columnsOf u n) n start seed normal (start-few doubles fine)
+
+  is : r ≡ answerAt (columnsOf u n) n start seed stop
+  is = answer-stage job (number-none job zero)
+
+  -- what the rule asks for
+  pub one-keeps : keeps rule r ≡ true
+  one-keeps = rw is (kept-there (columnsOf u n) n start seed normal (start-few doubles fine) rule (fine .ruled))
+
+  -- stages 0 to 8
+  pub at-most-nine : r .stage ≤ 8
+  at-most-nine =
+      rw is (nine-stages (columnsOf u n) n start seed falls (start-few doubles fine) stop (leads plusZero (columnsOf u n) n start seed falls rule (fine .ruled)))
+
+  -- the single fields
+  pub single-nonzeros : getD (r .«path_nonzeros») (r .stage) 0 ≡ r .nonzeros
+  single-nonzeros = rw is (path-at 0 (entriesAt plusZero (columnsOf u n) n start seed) stop stop 0 (omega arith))
+
+  pub single-change : getD (r .«path_change») (r .stage) nan ≡ r .change
+  single-change = rw is (path-at plusZero (λ i. movedBy (columnsOf u n) n start (stageOf plusZero (columnsOf u n) n start seed i)) stop stop nan (omega arith))
+
+  -- along the path
+  entries-at : (i : ℕ) → i ≤ r .stage → getD (r .«path_nonzeros») i 0 ≡ entriesAt plusZero (columnsOf u n) n start seed i
+  entries-at i l =
+      let e : r .stage ≡ stop = ap (λ (x : Answer). x .stage) is in
+      ap (λ (x : Answer). getD (x .«path_nonzeros») i 0) is ∙ path-at 0 (entriesAt plusZero (columnsOf u n) n start seed) stop i 0 (omega arith)
+
+  pub at-most-half : (i : ℕ) → i < r .stage → 2 * getD (r .«path_nonzeros») (suc i) 0 ≤ getD (r .«path_nonzeros») i 0
+  at-most-half i l =
+      let e : r .stage ≡ stop = ap (λ (x : Answer). x .stage) is in
+      let f = falls i (λ j k. leads plusZero (columnsOf u n) n start seed falls rule (fine .ruled) j (omega arith)) in
+      omega (arith, f, entries-at i (omega arith), entries-at (suc i) (omega arith))
+
+  pub strictly-fewer : (i : ℕ) → i < r .stage → getD (r .«path_nonzeros») (suc i) 0 < getD (r .«path_nonzeros») i 0
+  strictly-fewer i l =
+      let e : r .stage ≡ stop = ap (λ (x : Answer). x .stage) is in
+      omega (arith, at-most-half i l, leads plusZero (columnsOf u n) n start seed falls rule (fine .ruled) i (omega arith), entries-at i (omega arith))
