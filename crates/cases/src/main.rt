@@ -191,7 +191,7 @@ fn equal_columns(seed: u64) {
     let mut colours = [0i8; 2];
     let mut numbers = [0.0f64; 76];
     let mut indices = [0u32; 48];
-    let number = discrepancy_coloring(
+    let answer = discrepancy_coloring(
         &matrix[..],
         2,
         3,
@@ -203,7 +203,7 @@ fn equal_columns(seed: u64) {
     put(b"C13\ttwo equal columns, seed ");
     io::print_decimal(1, seed);
     tab();
-    io::print_decimal(1, number);
+    io::print_decimal(1, answer.number);
     tab();
     put_colour(colours[0]);
     put_colour(colours[1]);

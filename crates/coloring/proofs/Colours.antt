@@ -1,6 +1,6 @@
 -- Every colour is 1.0 or -1.0, for every matrix, NaN and infinite entries too. In the walk a coordinate is marked free or has its colour:
 -- one that freezes is snapped to its sign and is no NaN, and rounding gives 1 or -1. At the walk's end none is free, and local search only negates.
-use Prim.Native.Nat.{ℕ, zero, suc, _<_}
+use Prim.Native.Nat.{ℕ, zero, suc, _+_, _<_}
 use mathlib.Core.Path.{_≡_, refl, sym, ap, _∙_}
 use mathlib.Core.Bool.{Bool, true, false}
 use mathlib.Core.List.{List}
@@ -25,8 +25,9 @@ use Rattle.places.specs.Places.{roundedAt}
 use Rattle.phasing.specs.Phase.{Between, roundedOff, phased}
 use Rattle.coloring.specs.Coloring.{settled, walked, coloringOf}
 use Rattle.places.proofs.Places.{off, getD-any, length-putBack, back, back-at, back-other, count-before, none-passes}
-use Rattle.coloring.proofs.Marked.{Colour, negated, rounded, picked, run-keeps, Sound, all-free, phase-keeps}
-use Rattle.coloring.proofs.Phases.{insidePhase, put, walk-settles}
+use Rattle.walk.proofs.Counts.{run-keeps}
+use Rattle.coloring.proofs.Marked.{Colour, negated, rounded, picked, Sound, all-free, phase-keeps}
+use Rattle.coloring.proofs.Phases.{insideCourse, insidePhase, put, walk-settles}
 use Rattle.walk.specs.Walk.{freeOnes}
 
 -- ---- between two phases
@@ -69,8 +70,17 @@ pub record Standing (k : ℕ) (b : Between) : Type 0 where
   pub sound : Sound k (b .x) (b .free)
   pub marks : length (b .free) ≡ k
 
+-- where the walk starts
+pub start-stands : (k : ℕ) (ax : List Float) (rng : ℕ) → Standing k
+    (record { x = repeated plusZero k; free = repeated 1 k; ax = ax; rng = rng; directions = 0 })
+start-stands k ax rng =
+    record {
+      sound = record { long = length-tab (λ _. plusZero) k; coloured = λ j h f. absurd (off (sym (all-free k j h) ∙ f)) };
+      marks = length-tab {A = ℕ} (λ _. 1) k;
+    }
+
 module _ (z : Float) (a : ℕ → ℕ → Float) (k n : ℕ) where
-  phased-sound : (b : Between) → Standing k b → Standing k (phased z a k n b)
+  pub phased-sound : (b : Between) → Standing k b → Standing k (phased z a k n b)
   unfolding phased
   phased-sound b s = picked (Standing k) (eqb (insidePhase z a k n b .frozen) 0) (roundedOff after) after
       (record {
@@ -85,6 +95,7 @@ module _ (z : Float) (a : ℕ → ℕ → Float) (k n : ℕ) where
         free = put (b .free) (insidePhase z a k n b .free) k;
         ax = insidePhase z a k n b .ax;
         rng = insidePhase z a k n b .rng;
+        directions = b .directions + insideCourse z a k n b .directions;
       }
 
       sound : Sound k (after .x) (after .free)
@@ -97,13 +108,7 @@ module _ (z : Float) (a : ℕ → ℕ → Float) (k n : ℕ) where
 
   pub walked-sound : (rng : ℕ) → Standing k (walked z a k n rng)
   unfolding walked
-  walked-sound rng =
-      run-keeps (Standing k) settled (phased z a k n) phased-sound _
-      (record { x = repeated plusZero k; free = repeated 1 k; ax = repeated plusZero n; rng = rng })
-      (record {
-        sound = record { long = length-tab (λ _. plusZero) k; coloured = λ j h f. absurd (off (sym (all-free k j h) ∙ f)) };
-        marks = length-tab {A = ℕ} (λ _. 1) k;
-      })
+  walked-sound rng = run-keeps (Standing k) settled (phased z a k n) (λ b _. phased-sound b) _ _ (start-stands k (repeated plusZero n) rng)
 
 -- ---- local search
 
@@ -130,17 +135,18 @@ module _ (a : ℕ → ℕ → Float) (k : ℕ) where
       picked (λ t. Coloured k (t .x)) (improves (a m) r m) (flipped (a m) r m) r
       (negated-at k m (r .x) (sweep-coloured s m c)) (sweep-coloured s m c)
 
-  search-coloured : (m sweeps : ℕ) (s : Search) → Coloured k (s .x) → Coloured k (searchTo a m sweeps s .x)
+  search-coloured : (m left made : ℕ) (s : Search) → Coloured k (s .x) → Coloured k (searchTo a m left made s .x)
   unfolding searchTo
-  search-coloured m zero s c = c
-  search-coloured m (suc sweeps) s c =
+  search-coloured m zero made s c = c
+  search-coloured m (suc left) made s c =
       let r : Search = sweptOf a m s in
       let d : Coloured k (r .x) = sweep-coloured (record { x = s .x; ax = s .ax; best = s .best; improved = false }) m c in
-      picked (λ t. Coloured k (t .x)) (r .improved) (searchTo a m sweeps r) r (search-coloured m sweeps r d) d
+      picked (λ t. Coloured k (t .x)) (r .improved) (searchTo a m left (suc made) r) (record { x = r .x; sweeps = suc made })
+      (search-coloured m left (suc made) r d) d
 
-  searched-coloured : (m : ℕ) (x ax : List Float) → Coloured k x → Coloured k (searched a m x ax)
+  searched-coloured : (m : ℕ) (x ax : List Float) → Coloured k x → Coloured k (searched a m x ax .x)
   unfolding searched
-  searched-coloured m x ax c = search-coloured m 100 (record { x = x; ax = ax; best = maxAbsOf ax; improved = false }) c
+  searched-coloured m x ax c = search-coloured m 100 0 (record { x = x; ax = ax; best = maxAbsOf ax; improved = false }) c
 
 -- ---- the whole
 

@@ -1,7 +1,8 @@
 -- The laws of the colouring.
 pub mod Marked
 pub mod Phases
-pub mod Walks
 pub mod Colours
+pub mod Counts
+pub mod Walks
 pub mod SameColumns
 pub mod Starts

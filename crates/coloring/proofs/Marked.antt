@@ -15,7 +15,6 @@ use lib.Ieee.{Float, nan, inf, fin, neg, le, ofBits}
 use Rattle.seq.specs.Choice.{pick}
 use Rattle.seq.specs.Lists.{repeated}
 use Rattle.seq.specs.Sums.{at}
-use Rattle.seq.specs.Until.{run}
 use Rattle.seq.proofs.Filling.{length-tab, getD-tab}
 use Rattle.ieee.specs.Magnitude.{absOf, signumOf}
 use lib.Ieee.Scale.{finite}
@@ -27,9 +26,10 @@ use Rattle.ieee.specs.Constants.{one, minusOne}
 use Rattle.freeze.specs.Freeze.{freezeLimit, Walk, freezes, frozenAt, freezeTo}
 use Rattle.direction.specs.Step.{reachTo, moved, movedAt}
 use Rattle.walk.proofs.Ending.{step-sound}
+use Rattle.walk.proofs.Counts.{run-keeps}
 use Rattle.places.proofs.Places.{off, count-all}
 use Rattle.begin.specs.Begin.{begun}
-use Rattle.walk.specs.Walk.{Stepped, drew, advanced, freeOnes, stepOf, steppedAlong, phaseOf, ended}
+use Rattle.walk.specs.Walk.{Stepped, drew, advanced, freeOnes, stepOf, steppedAlong, Course, further, ended, courseFrom, phaseOf}
 
 -- ---- one colour
 
@@ -82,13 +82,6 @@ rounded false = inr refl
 pub picked : {S : Type 0} (P : S → Type 0) (t : Bool) (x y : S) → P x → P y → P (pick t x y)
 picked P true x y p q = p
 picked P false x y p q = q
-
--- what each step keeps, a loop keeps
-pub run-keeps : {S : Type 0} (P : S → Type 0) (done : S → Bool) (next : S → S) → ((s : S) → P s → P (next s)) → (fuel : ℕ) (s : S)
-    → P s → P (run done next fuel s)
-unfolding run
-run-keeps P done next h zero s p = p
-run-keeps P done next h (suc fuel) s p = picked P (done s) s (run done next fuel (next s)) p (run-keeps P done next h fuel (next s) (h s p))
 
 -- ---- a walk in its phase
 
@@ -156,6 +149,9 @@ module _ (z : Float) (a : ℕ → ℕ → Float) (l n : ℕ) where
   abbrev walk-kept : Stepped → Type 0
   walk-kept s = Kept l (s .walk)
 
+  abbrev start : Walk → Course
+  start w = record { more = true; walk = w; directions = 0 }
+
   along-kept : (w : Walk) (g : List Float) → Kept l w → Kept l (steppedAlong z a l n w g .walk)
   unfolding steppedAlong
   along-kept w g s =
@@ -177,8 +173,8 @@ module _ (z : Float) (a : ℕ → ℕ → Float) (l n : ℕ) where
       (record { sound = s .sound; marks = s .marks }) (along-kept w g s)
 
   phase-kept : (w : Walk) → Kept l w → Kept l (phaseOf z a l n w)
-  unfolding phaseOf
-  phase-kept w s = run-keeps walk-kept (ended l) (λ s. stepOf z a l n (s .walk)) (λ s. step-kept (s .walk)) _ (record { more = true; walk = w }) s
+  unfolding courseFrom
+  phase-kept w s = run-keeps (λ c. Kept l (c .walk)) (ended l) (further z a l n) (λ c _. step-kept (c .walk)) _ (start w) s
 
   -- where a phase begins, all is free
   begun-kept : (x ax : List Float) (rng : ℕ) → length x ≡ l → Kept l (begun z a l n x ax rng)
@@ -195,10 +191,10 @@ module _ (z : Float) (a : ℕ → ℕ → Float) (l n : ℕ) where
 
   -- what froze in it and what is free after it are all of its columns
   phase-sum : (w : Walk) → w .frozen + freeOnes (w .free) ≡ l → phaseOf z a l n w .frozen + freeOnes (phaseOf z a l n w .free) ≡ l
-  unfolding phaseOf
+  unfolding courseFrom
   phase-sum w e =
-      run-keeps (λ s. s .walk .frozen + freeOnes (s .walk .free) ≡ l) (ended l) (λ s. stepOf z a l n (s .walk))
-      (λ s t. step-sound z a l n (s .walk) .together ∙ t) _ (record { more = true; walk = w }) e
+      run-keeps (λ c. c .walk .frozen + freeOnes (c .walk .free) ≡ l) (ended l) (further z a l n)
+      (λ c _ t. step-sound z a l n (c .walk) .together ∙ t) _ (start w) e
 
   pub phase-total : (x ax : List Float) (rng : ℕ)
       → phaseOf z a l n (begun z a l n x ax rng) .frozen + freeOnes (phaseOf z a l n (begun z a l n x ax rng) .free) ≡ l

@@ -22,7 +22,7 @@ use Rattle.seq.specs.Marks.{isSet}
 use Rattle.seq.proofs.Marks.{unset-out, set-inside}
 use Rattle.freeze.specs.Freeze.{Walk}
 use Rattle.begin.specs.Begin.{begun}
-use Rattle.walk.specs.Walk.{phaseOf, freeOnes}
+use Rattle.walk.specs.Walk.{Course, courseOf, freeOnes}
 use Rattle.places.specs.Places.{chosen, putBack}
 use Rattle.phasing.specs.Phase.{Between, roundedOff, phased}
 use Rattle.coloring.specs.Coloring.{settled, walked}
@@ -80,10 +80,13 @@ froze-some l m w e h g f =
 
 module _ (z : Float) (a : ℕ → ℕ → Float) (k n : ℕ) where
   -- the phase on the free columns
-  abbrev pub insidePhase : Between → Walk
-  insidePhase b =
-      phaseOf z (λ p. a (getD (keep (isSet (b .free)) k) p 0)) (length (keep (isSet (b .free)) k)) n
+  abbrev pub insideCourse : Between → Course
+  insideCourse b =
+      courseOf z (λ p. a (getD (keep (isSet (b .free)) k) p 0)) (length (keep (isSet (b .free)) k)) n
       (begun z (λ p. a (getD (keep (isSet (b .free)) k) p 0)) (length (keep (isSet (b .free)) k)) n (chosen (b .x) (keep (isSet (b .free)) k)) (b .ax) (b .rng))
+
+  abbrev pub insidePhase : Between → Walk
+  insidePhase b = insideCourse b .walk
 
   -- what it keeps
   counts : (b : Between) → Kept (length (keep (isSet (b .free)) k)) (insidePhase b)
@@ -100,6 +103,7 @@ module _ (z : Float) (a : ℕ → ℕ → Float) (k n : ℕ) where
         free = put (b .free) (insidePhase b .free) k;
         ax = insidePhase b .ax;
         rng = insidePhase b .rng;
+        directions = b .directions + insideCourse b .directions;
       }
 
       go : (t : Bool) → eqb (insidePhase b .frozen) 0 ≡ t → freeOnes (pick t (roundedOff after) after .free) < freeOnes (b .free)
@@ -127,7 +131,9 @@ module _ (z : Float) (a : ℕ → ℕ → Float) (k n : ℕ) where
 
   -- more fuel changes nothing
   pub walk-enough : (fuel rng : ℕ) → k ≤ fuel
-      → run settled (phased z a k n) fuel (record { x = repeated plusZero k; free = repeated 1 k; ax = repeated plusZero n; rng = rng }) ≡ walked z a k n rng
+      → run settled (phased z a k n) fuel
+      (record { x = repeated plusZero k; free = repeated 1 k; ax = repeated plusZero n; rng = rng; directions = 0 }) ≡ walked
+      z a k n rng
   unfolding walked
   walk-enough fuel rng h = enough settled (phased z a k n) (λ b. freeOnes (b .free)) falls fuel _ _
       (omega (arith, marks-short (repeated 1 k), length-tab {A = ℕ} (λ _. 1) k)) (omega arith)

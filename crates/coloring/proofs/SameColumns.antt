@@ -64,17 +64,17 @@ module _ (a b : ℕ → ℕ → Float) (k n : ℕ) (same : (p i : ℕ) → p < k
       let f : (i : ℕ) → i < n → a j i ≡ b j i = λ i g. same j i h g in
       rw (sweep-same s e j (omega arith), improves-same (a j) (b j) n f (sweepTo b s j) r j, flipped-same (a j) (b j) n f (sweepTo b s j) r j)
 
-  search-same : (sweeps : ℕ) (s : Search) → length (s .ax) ≡ n → searchTo a k sweeps s ≡ searchTo b k sweeps s
+  search-same : (left made : ℕ) (s : Search) → length (s .ax) ≡ n → searchTo a k left made s ≡ searchTo b k left made s
   unfolding searchTo
-  search-same zero s e = refl
-  search-same (suc sweeps) s e =
+  search-same zero made s e = refl
+  search-same (suc left) made s e =
       let r : Search = sweptOf b k s in
       let f : sweptOf a k s ≡ sweptOf b k s = sweep-same _ e k (omega arith) in
-      rw f (ap (λ more. pick (r .improved) more r) (search-same sweeps r (sweep-rows b _ k ∙ e)))
+      rw f (ap (λ more. pick (r .improved) more (record { x = r .x; sweeps = suc made })) (search-same left (suc made) r (sweep-rows b _ k ∙ e)))
 
   searched-same : (x ax : List Float) → length ax ≡ n → searched a k x ax ≡ searched b k x ax
   unfolding searched
-  searched-same x ax e = ap (λ (s : Search). s .x) (search-same 100 (record { x = x; ax = ax; best = maxAbsOf ax; improved = false }) e)
+  searched-same x ax e = search-same 100 0 (record { x = x; ax = ax; best = maxAbsOf ax; improved = false }) e
 
   -- ---- the walk
 

@@ -1,5 +1,5 @@
 -- What a sum starts from, +0.0 or -0.0, alters no colour: until the walk ends it can alter only the sign of zeros, and at the end no coordinate is a zero.
-use Prim.Native.Nat.{ℕ, zero, suc, _<_}
+use Prim.Native.Nat.{ℕ, zero, suc, _+_, _<_}
 use mathlib.Core.Path.{_≡_, refl, sym, ap, subst}
 use mathlib.Core.Logic.{inl, inr}
 use mathlib.Core.Bool.{not}
@@ -16,11 +16,10 @@ use Rattle.ieee.proofs.Alikes.{alike-refl, le-alike, pick-alike}
 use Rattle.ieee.proofs.Equality.{alike-nonzero}
 use Rattle.seq.specs.Marks.{isSet}
 use Rattle.ieee.specs.Constants.{one, minusOne}
-use Rattle.freeze.specs.Freeze.{Walk}
 use Rattle.begin.specs.Begin.{begun}
-use Rattle.walk.specs.Walk.{phaseOf, freeOnes}
+use Rattle.walk.specs.Walk.{Course, courseOf, freeOnes}
 use Rattle.walk.proofs.Pairs.{each-length, each-at, each-set, each-tab, each-tabs, pick-both, run-both}
-use Rattle.walk.proofs.Starts.{AlikeList, AlikeWalk, at-alike, same-list, begun-alike, phase-alike}
+use Rattle.walk.proofs.Starts.{AlikeList, AlikeCourse, at-alike, same-list, begun-alike, course-alike}
 use Rattle.places.specs.Places.{chosen, putBack, roundedAt}
 use Rattle.phasing.specs.Phase.{Between, roundedOff, phased}
 use Rattle.coloring.specs.Coloring.{settled, walked, coloringOf}
@@ -33,6 +32,7 @@ pub record AlikeBetween (b b' : Between) : Type 0 where
   pub free : b .free ≡ b' .free
   pub ax : AlikeList (b .ax) (b' .ax)
   pub rng : b .rng ≡ b' .rng
+  pub directions : b .directions ≡ b' .directions
 
 -- ---- what adds nothing up
 
@@ -55,6 +55,7 @@ rounded-alike {b} {b'} r =
       free = ap (λ (free : List ℕ). repeated 0 (length free)) (r .free);
       ax = r .ax;
       rng = r .rng;
+      directions = r .directions;
     }
 
 settled-same : (b b' : Between) → AlikeBetween b b' → settled b ≡ settled b'
@@ -64,36 +65,49 @@ settled-same b b' r = ap (λ (free : List ℕ). eqb (freeOnes free) 0) (r .free)
 
 module _ (z : Float) (start : Alike z plusZero) (a : ℕ → ℕ → Float) (k n : ℕ) where
   -- a phase on the same free columns
-  inside-alike : {x x' ax ax' : List Float} (free : List ℕ) (rng : ℕ) → AlikeList x x' → AlikeList ax ax'
-      → AlikeBetween (phased z a k n (record { x = x; free = free; ax = ax; rng = rng }))
-      (phased plusZero a k n (record { x = x'; free = free; ax = ax'; rng = rng }))
+  inside-alike : {x x' ax ax' : List Float} (free : List ℕ) (rng directions : ℕ) → AlikeList x x' → AlikeList ax ax'
+      → AlikeBetween (phased z a k n (record { x = x; free = free; ax = ax; rng = rng; directions = directions }))
+      (phased plusZero a k n (record { x = x'; free = free; ax = ax'; rng = rng; directions = directions }))
   unfolding phased
-  inside-alike {x} {x'} {ax} {ax'} free rng p q =
+  inside-alike {x} {x'} {ax} {ax'} free rng directions p q =
       let phase : List ℕ = keep (isSet free) k in
       let l : ℕ = length phase in
       let inside : ℕ → ℕ → Float = λ p. a (getD phase p 0) in
-      let w : Walk = phaseOf z inside l n (begun z inside l n (chosen x phase) ax rng) in
-      let w' : Walk = phaseOf plusZero inside l n (begun plusZero inside l n (chosen x' phase) ax' rng) in
-      let r : AlikeWalk w w' = phase-alike z start inside l n (begun-alike z start inside l n rng (chosen-alike phase p) q) in
-      let after : Between = record { x = putBack plusZero phase (w .x) x l; free = putBack 0 phase (w .free) free l; ax = w .ax; rng = w .rng } in
-      let after' : Between = record { x = putBack plusZero phase (w' .x) x' l; free = putBack 0 phase (w' .free) free l; ax = w' .ax; rng = w' .rng } in
-      let s : AlikeBetween after after' = record {
-        x = back-alike phase (r .x) p l;
-        free = ap (λ (values : List ℕ). putBack 0 phase values free l) (r .free);
-        ax = r .ax;
-        rng = r .rng;
+      let c : Course = courseOf z inside l n (begun z inside l n (chosen x phase) ax rng) in
+      let c' : Course = courseOf plusZero inside l n (begun plusZero inside l n (chosen x' phase) ax' rng) in
+      let r : AlikeCourse c c' = course-alike z start inside l n (begun-alike z start inside l n rng (chosen-alike phase p) q) in
+      let after : Between = record {
+        x = putBack plusZero phase (c .walk .x) x l;
+        free = putBack 0 phase (c .walk .free) free l;
+        ax = c .walk .ax;
+        rng = c .walk .rng;
+        directions = directions + c .directions;
       } in
-      pick-both AlikeBetween (ap (λ (m : ℕ). eqb m 0) (r .frozen)) (λ _. rounded-alike s) s
+      let after' : Between = record {
+        x = putBack plusZero phase (c' .walk .x) x' l;
+        free = putBack 0 phase (c' .walk .free) free l;
+        ax = c' .walk .ax;
+        rng = c' .walk .rng;
+        directions = directions + c' .directions;
+      } in
+      let s : AlikeBetween after after' = record {
+        x = back-alike phase (r .walk .x) p l;
+        free = ap (λ (values : List ℕ). putBack 0 phase values free l) (r .walk .free);
+        ax = r .walk .ax;
+        rng = r .walk .rng;
+        directions = ap (λ (d : ℕ). directions + d) (r .directions);
+      } in
+      pick-both AlikeBetween (ap (λ (m : ℕ). eqb m 0) (r .walk .frozen)) (λ _. rounded-alike s) s
 
   phased-alike : (b b' : Between) → AlikeBetween b b' → AlikeBetween (phased z a k n b) (phased plusZero a k n b')
-  phased-alike b b' r = rw (r .free, r .rng) (inside-alike (b' .free) (b' .rng) (r .x) (r .ax))
+  phased-alike b b' r = rw (r .free, r .rng, r .directions) (inside-alike (b' .free) (b' .rng) (b' .directions) (r .x) (r .ax))
 
   pub walked-alike : (rng : ℕ) → AlikeBetween (walked z a k n rng) (walked plusZero a k n rng)
   unfolding walked
   walked-alike rng =
-      let b : Between = record { x = repeated plusZero k; free = repeated 1 k; ax = repeated plusZero n; rng = rng } in
+      let b : Between = record { x = repeated plusZero k; free = repeated 1 k; ax = repeated plusZero n; rng = rng; directions = 0 } in
       run-both AlikeBetween settled (phased z a k n) (phased plusZero a k n) settled-same phased-alike refl b b
-      (record { x = same-list (repeated plusZero k); free = refl; ax = same-list (repeated plusZero n); rng = refl })
+      (record { x = same-list (repeated plusZero k); free = refl; ax = same-list (repeated plusZero n); rng = refl; directions = refl })
 
 -- ---- the colours
 
@@ -110,7 +124,7 @@ minus-start : Alike minusZero plusZero
 unfolding ofBits
 minus-start = record { flatly = refl }
 
--- the same colours and the same generator after them
+-- the same colours, the same generator after them and the same counts
 module _ (a : ℕ → ℕ → Float) (k n rng : ℕ) where
   colours-same : walked minusZero a k n rng .x ≡ walked plusZero a k n rng .x
   colours-same =
@@ -120,4 +134,6 @@ module _ (a : ℕ → ℕ → Float) (k n rng : ℕ) where
 
   pub starts-alike : coloringOf minusZero a k n rng ≡ coloringOf plusZero a k n rng
   unfolding coloringOf
-  starts-alike = rw (colours-same, walked-alike minusZero minus-start a k n rng .rng)
+  starts-alike =
+      let w = walked-alike minusZero minus-start a k n rng in
+      rw (colours-same, w .rng, w .directions)

@@ -1,5 +1,5 @@
 -- The loop of the walk: where it starts, its turns, and where it ends; and what is left to do once it has.
-use Prim.Native.Nat.{ℕ, zero, _≤_, _<_}
+use Prim.Native.Nat.{ℕ, zero, _+_, _*_, _≤_, _<_}
 use mathlib.Core.Path.{_≡_, sym, ap, _∙_}
 use mathlib.Core.Logic.{_≢_}
 use mathlib.Core.List.{List, _++_}
@@ -17,11 +17,14 @@ use Rattle.entries.specs.Rows.{times}
 use Rattle.walk.specs.Walk.{freeOnes}
 use Rattle.phasing.specs.Phase.{Between, phased}
 use Rattle.coloring.specs.Coloring.{settled, walked, coloringOf}
-use Rattle.search.specs.Search.{searched}
+use Rattle.search.specs.Search.{Searched, searched}
+use Rattle.search.specs.Searching.{searchedIn}
 use Rattle.phasing.specs.Phasing.{between}
-use Rattle.coloring.specs.Fresh.{Fresh}
+use Rattle.coloring.specs.Fresh.{Fresh, ColoredAs}
+use Rattle.coloring.specs.declared.Counted.{Counted}
 use Rattle.freeze.specs.Held.{Roomy}
 use Rattle.coloring.proofs.Phases.{falls}
+use Rattle.coloring.proofs.Counts.{phased-few}
 
 -- the room that the phases share stays as long as it was made
 pub record Rooms (ps cs : List ℕ) (ss xs : List Float) (fs : List ℕ) (ds : List Float) : Type 0 where
@@ -37,13 +40,17 @@ module _ (z : Float) (a : ℕ → ℕ → Float) (k n : ℕ) where
   abbrev pub onward : Between → Between
   onward b = run settled (phased z a k n) (freeOnes (b .free)) b
 
-  pub walk-begun : (rng : ℕ) (num x : List Float) (free : List ℕ) → Fresh k n num x free → walked z a k n rng ≡ onward (between n num x free rng)
+  pub walk-begun : (rng : ℕ) (num x : List Float) (free : List ℕ) → Fresh k n num x free → walked z a k n rng ≡ onward (between n num x free rng 0)
   unfolding walked
   walk-begun rng num x free f = rw (f .zero, f .all, f .flat)
 
   module _ (b b' : Between) (next : b' ≡ phased z a k n b) (goes : freeOnes (b .free) ≢ 0) where
     pub walk-falls : freeOnes (b' .free) < freeOnes (b .free)
     walk-falls = rw next (falls z a k n b (ne-eqb (freeOnes (b .free)) 0 goes))
+
+    -- and draws no more directions than that allows
+    pub walk-few : length (b .free) ≡ k → b' .directions + 2 * freeOnes (b' .free) ≤ b .directions + 2 * freeOnes (b .free)
+    walk-few e = rw next (phased-few z a k n b e (ne-eqb (freeOnes (b .free)) 0 goes))
 
     pub walk-turn : onward b ≡ onward b'
     walk-turn = turns settled (phased z a k n) (λ c. freeOnes (c .free)) (falls z a k n) b (ne-eqb (freeOnes (b .free)) 0 goes) ∙ ap onward (sym next)
@@ -71,11 +78,17 @@ fresh-is k rows num x x' ys free free' lx lf h ex ey ef =
     }
 
 -- the walk, and local search from its colours
-pub colors : (a : ℕ → ℕ → Float) (k rows rng m r : ℕ) (num x x' : List Float) (free : List ℕ)
-    → between rows num x free r ≡ walked plusZero a k rows rng → m ≡ rows → x' ≡ searched a k x (times plusZero a k m x)
-    → (x' ≡ coloringOf plusZero a k rows rng .x) × (r ≡ coloringOf plusZero a k rows rng .rng)
+pub colors : (a : ℕ → ℕ → Float) (k rows rng m directions : ℕ) (num x x' : List Float) (free : List ℕ) (r : Counted)
+    → between rows num x free (r .rng .state) directions ≡ walked plusZero a k rows rng → r .directions ≡ directions → m ≡ rows
+    → searchedIn x' (r .sweeps) ≡ searched a k x (times plusZero a k m x)
+    → ColoredAs x' r (coloringOf plusZero a k rows rng)
 unfolding coloringOf
-colors a k rows rng m r num x x' free w e s = (
-  s ∙ ap (λ (i : ℕ). searched a k x (times plusZero a k i x)) e ∙ ap (λ (b : Between). searched a k (b .x) (times plusZero a k rows (b .x))) w,
-  ap (λ (b : Between). b .rng) w,
-)
+colors a k rows rng m directions num x x' free r w d e s =
+    let f : searchedIn x' (r .sweeps) ≡ searched a k (walked plusZero a k rows rng .x) (times plusZero a k rows (walked plusZero a k rows rng .x)) =
+    s ∙ ap (λ (i : ℕ). searched a k x (times plusZero a k i x)) e ∙ ap (λ (b : Between). searched a k (b .x) (times plusZero a k rows (b .x))) w in
+    record {
+      colours = ap (λ (o : Searched). o .x) f;
+      draws = ap (λ (b : Between). b .rng) w;
+      directions = d ∙ ap (λ (b : Between). b .directions) w;
+      sweeps = ap (λ (o : Searched). o .sweeps) f;
+    }

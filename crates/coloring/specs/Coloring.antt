@@ -10,7 +10,7 @@ use Rattle.seq.specs.Until.{run}
 use Rattle.entries.specs.Rows.{times}
 use Rattle.walk.specs.Walk.{freeOnes}
 use Rattle.phasing.specs.Phase.{Between, phased}
-use Rattle.search.specs.Search.{searched}
+use Rattle.search.specs.Search.{Searched, searched}
 
 -- no coordinate is free
 abbrev pub settled : Between → Bool
@@ -19,16 +19,19 @@ settled b = eqb (freeOnes (b .free)) 0
 -- the whole walk, from x = 0
 unfoldable pub walked : Float → (ℕ → ℕ → Float) → ℕ → ℕ → ℕ → Between
 walked z a k n rng =
-    let b : Between = record { x = repeated plusZero k; free = repeated 1 k; ax = repeated plusZero n; rng = rng } in
+    let b : Between = record { x = repeated plusZero k; free = repeated 1 k; ax = repeated plusZero n; rng = rng; directions = 0 } in
     run settled (phased z a k n) (freeOnes (b .free)) b
 
--- colours, each 1.0 or -1.0, and the generator after them
+-- colours, each 1.0 or -1.0, the generator after them, and how many directions were drawn and how many sweeps made
 pub record Colored : Type 0 where
   pub x : List Float
   pub rng : ℕ
+  pub directions : ℕ
+  pub sweeps : ℕ
 
 -- the walk, A x of its colours anew, and local search
 unfoldable pub coloringOf : Float → (ℕ → ℕ → Float) → ℕ → ℕ → ℕ → Colored
 coloringOf z a k n rng =
     let b : Between = walked z a k n rng in
-    record { x = searched a k (b .x) (times plusZero a k n (b .x)); rng = b .rng }
+    let s : Searched = searched a k (b .x) (times plusZero a k n (b .x)) in
+    record { x = s .x; rng = b .rng; directions = b .directions; sweeps = s .sweeps }

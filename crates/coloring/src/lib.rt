@@ -11,13 +11,27 @@ ghost use lib.ListN.{length};
 ghost use Rattle.seq.specs.Sums.{plusZero};
 ghost use Rattle.entries.specs.Rows.{times};
 ghost use Rattle.search.specs.Search.{searched};
+ghost use Rattle.search.specs.Searching.{searchedIn};
 ghost use Rattle.walk.specs.Walk.{freeOnes};
 ghost use Rattle.coloring.specs.Coloring.{walked, coloringOf};
 ghost use Rattle.entries.specs.Entries.{entryOf};
 ghost use Rattle.entries.specs.ChosenColumns.{Chosen};
 ghost use Rattle.freeze.specs.Held.{Roomy};
 ghost use Rattle.phasing.specs.Phasing.{between};
-ghost use Rattle.coloring.specs.Fresh.{Fresh};
+ghost use Rattle.coloring.specs.Fresh.{Fresh, ColoredAs};
+
+// How many directions were drawn, and the generator after them.
+struct Drawn {
+    directions: usize,
+    rng: SplitMix64,
+}
+
+// What a colouring leaves beside the colours: how many directions were drawn, how many sweeps made, and the generator after it.
+pub struct Counted {
+    pub directions: usize,
+    pub sweeps: usize,
+    pub rng: SplitMix64,
+}
 
 // How many marks are set.
 fn count_free(free: &[u32]) -> usize
@@ -34,8 +48,9 @@ fn count_free(free: &[u32]) -> usize
     l
 }
 
-// Phases until no coordinate is free. x is all 0.0, free all set and A x all 0.0. The arrays are room that the phases share.
-fn walk(
+// Phases until no coordinate is free; the directions of all of them are counted. x is all 0.0, free all set and A x all 0.0.
+// The arrays are room that the phases share.
+fn walk_to_end(
     num: &mut [f64],
     blocked: &mut [u32],
     x: &mut [f64],
@@ -45,11 +60,11 @@ fn walk(
     cols: &[u32],
     scale: &[f64],
     rng: SplitMix64,
-) -> SplitMix64
+) -> Drawn
     requires { ⌜ Chosen (now u) n (now cols) (now scale) (length (now blocked)) × Roomy (length (now cols)) (now num)
         (now blocked) (now x) (now free) 0 × Fresh (length (now cols)) (length (now blocked)) (now num) (now x) (now free) ⌝ }
     ensures { λ r. ⌜ between (length (now (blocked .entry))) (now (num .exit)) (now (x .exit)) (now (free .exit))
-        (r .state) ≡ walked plusZero (entryOf (now (u .entry)) n (now (cols .entry)) (now (scale .entry)))
+        (r .rng .state) (r .directions) ≡ walked plusZero (entryOf (now (u .entry)) n (now (cols .entry)) (now (scale .entry)))
         (length (now (cols .entry))) (length (now (blocked .entry))) (rng .state) ⌝ }
 {
     let mut places = [0u32; 256];
@@ -59,6 +74,7 @@ fn walk(
     let mut subfree = [0u32; 256];
     let mut g = [0.0f64; 256];
     let mut r = rng;
+    let mut directions = 0usize;
     let mut left = count_free(&free[..]);
     while left > 0 {
         let next = next_phase(
@@ -78,10 +94,12 @@ fn walk(
             &mut subfree[..],
             &mut g[..],
         );
-        r = next;
+        r = next.at.rng;
+        let drawn = next.directions;
+        directions += drawn;
         left = count_free(&free[..]);
     }
-    r
+    Drawn { directions, rng: r }
 }
 
 // The whole walk, from x = 0 with every coordinate free.
@@ -95,33 +113,40 @@ fn walk_anew(
     cols: &[u32],
     scale: &[f64],
     rng: SplitMix64,
-) -> SplitMix64
+) -> Drawn
     requires { ⌜ Chosen (now u) n (now cols) (now scale) (length (now blocked)) × Roomy (length (now cols)) (now num)
         (now blocked) (now x) (now free) 0 ⌝ }
     ensures { λ r. ⌜ between (length (now (blocked .entry))) (now (num .exit)) (now (x .exit)) (now (free .exit))
-        (r .state) ≡ walked plusZero (entryOf (now (u .entry)) n (now (cols .entry)) (now (scale .entry)))
+        (r .rng .state) (r .directions) ≡ walked plusZero (entryOf (now (u .entry)) n (now (cols .entry)) (now (scale .entry)))
         (length (now (cols .entry))) (length (now (blocked .entry))) (rng .state) ⌝ }
 {
     let rows = blocked.len();
     clear(&mut x[..]);
     clear(&mut num[..rows]);
     fill_words(&mut free[..], 1);
-    walk(num, blocked, x, free, u, n, cols, scale, rng)
+    walk_to_end(num, blocked, x, free, u, n, cols, scale, rng)
 }
 
-// Local search from the colours x, with A x anew.
-fn search_anew(ax: &mut [f64], x: &mut [f64], u: &[f64], n: usize, cols: &[u32], scale: &[f64])
+// Local search from the colours x, with A x anew; how many sweeps.
+fn search_anew(
+    ax: &mut [f64],
+    x: &mut [f64],
+    u: &[f64],
+    n: usize,
+    cols: &[u32],
+    scale: &[f64],
+) -> usize
     requires { ⌜ Chosen (now u) n (now cols) (now scale) (length (now ax)) × (length (now x) ≡ length (now cols)) ⌝ }
-    ensures { λ _. ⌜ now (x .exit) ≡ searched (entryOf (now (u .entry)) n (now (cols .entry)) (now (scale .entry)))
+    ensures { λ r. ⌜ searchedIn (now (x .exit)) r ≡ searched (entryOf (now (u .entry)) n (now (cols .entry)) (now (scale .entry)))
         (length (now (cols .entry))) (now (x .entry)) (times plusZero
         (entryOf (now (u .entry)) n (now (cols .entry)) (now (scale .entry))) (length (now (cols .entry)))
         (length (now (ax .entry))) (now (x .entry))) ⌝ }
 {
     times_into(&mut ax[..], u, n, cols, scale, &x[..]);
-    local_search(ax, x, u, n, cols, scale);
+    local_search(ax, x, u, n, cols, scale)
 }
 
-// Colours the columns, 1.0 or -1.0 each, into x; the generator after it. blocked is as long as there are rows.
+// Colours the columns, 1.0 or -1.0 each, into x. blocked is as long as there are rows.
 pub fn coloring(
     u: &[f64],
     n: usize,
@@ -131,20 +156,18 @@ pub fn coloring(
     num: &mut [f64],
     blocked: &mut [u32],
     rng: SplitMix64,
-) -> SplitMix64
+) -> Counted
     requires { ⌜ Chosen (now u) n (now cols) (now scale) (length (now blocked)) × (length (now x) ≡ length (now cols)) × (length
         (now blocked) + length (now blocked) + length (now blocked) + length (now cols) * length (now cols) ≤ length
         (now num)) ⌝ }
-    ensures { λ r. ⌜ (now (x .exit) ≡ coloringOf plusZero
+    ensures { λ r. ⌜ ColoredAs (now (x .exit)) r (coloringOf plusZero
         (entryOf (now (u .entry)) n (now (cols .entry)) (now (scale .entry))) (length (now (cols .entry)))
-        (length (now (blocked .entry))) (rng .state) .x) × (r .state ≡ coloringOf plusZero
-        (entryOf (now (u .entry)) n (now (cols .entry)) (now (scale .entry))) (length (now (cols .entry)))
-        (length (now (blocked .entry))) (rng .state) .rng) ⌝ }
+        (length (now (blocked .entry))) (rng .state)) ⌝ }
 {
     let k = cols.len();
     let rows = blocked.len();
     let mut free = [0u32; 256];
-    let r = walk_anew(
+    let w = walk_anew(
         &mut num[..],
         blocked,
         &mut x[..],
@@ -155,6 +178,11 @@ pub fn coloring(
         scale,
         rng,
     );
-    search_anew(&mut num[..rows], x, u, n, cols, scale);
-    r
+    let sweeps = search_anew(&mut num[..rows], x, u, n, cols, scale);
+    let r = w.rng;
+    Counted {
+        directions: w.directions,
+        sweeps,
+        rng: r,
+    }
 }

@@ -1,6 +1,6 @@
 -- The matrix as it is lent: with the columns chosen in order, each scaled by 1.0, an entry reads as it stands.
 use Prim.Native.Nat.{ℕ, _+_, _*_, _≤_, _<_}
-use mathlib.Core.Path.{_≡_, sym, ap, _∙_}
+use mathlib.Core.Path.{_≡_, sym, _∙_}
 use mathlib.Core.Bool.{true}
 use mathlib.Core.List.{List}
 use native.Mathlib.Decide.{decLt}
@@ -18,7 +18,7 @@ use Rattle.entries.specs.Entries.{entryOf}
 use Rattle.entries.specs.ChosenColumns.{Chosen}
 use Rattle.entries.proofs.Reading.{entry-own, entry-under}
 use Rattle.ieee.specs.Constants.{one}
-use Rattle.coloring.specs.Coloring.{Colored, coloringOf}
+use Rattle.coloring.specs.Coloring.{coloringOf}
 use Rattle.limits.specs.Limits.{bounded}
 use Rattle.limits.specs.Matrix.{columnsOf}
 use Rattle.limits.proofs.Bounded.{bounded-at, finite-within}
@@ -94,5 +94,5 @@ module _ (u : List Float) (m n : ℕ) (cols : List ℕ) (scale : List Float) (bl
 
   -- and what it leaves
   pub own-left : ((i : ℕ) → T (fits binary64 (at u i))) → (rng seed : ℕ) → rng ≡ seed
-      → coloringOf plusZero (entryOf u n cols scale) (length cols) (length blocked) rng .x ≡ coloringOf plusZero (columnsOf u n) m n seed .x
-  own-left known rng seed e = rw (rows, many, ordered, ones, e) (ap (λ (b : Colored). b .x) (own-coloring u m n area known seed))
+      → coloringOf plusZero (entryOf u n cols scale) (length cols) (length blocked) rng ≡ coloringOf plusZero (columnsOf u n) m n seed
+  own-left known rng seed e = rw (rows, many, ordered, ones, e) (own-coloring u m n area known seed)

@@ -13,6 +13,7 @@ use Rattle.seq.specs.Sums.{plusZero, at}
 use Rattle.limits.specs.Matrix.{columnsOf}
 use Rattle.limits.specs.Limits.{tooLarge, scratchShort, bounded}
 use Rattle.coloring.specs.Coloring.{coloringOf}
+use Rattle.discrepancy.specs.declared.Colored.{Colored}
 
 -- 2 ^ 32
 abbrev pub mostEntry : Float
@@ -34,10 +35,13 @@ colourAt x j = pick (lt plusZero (at x j)) (pos 1) (negsuc 0)
 unfoldable pub coloursOf : List Float → ℕ → ℕ → ℕ → List ℤ
 coloursOf u m n seed = tabulate (colourAt (coloringOf plusZero (columnsOf u n) m n seed .x)) m
 
--- the number, and what the call leaves: on a refusal every byte as it was, and else the colours and a scratch of zeros
+-- The answer, and what the call leaves: on a refusal zeros beside the number, and every list as it was, as a list of values;
+-- else how many directions were drawn and sweeps made, the colours, and a scratch of zeros.
 pub record DiscrepancyColored (u : List Float) (m n seed : ℕ) (output : List ℤ) (numbers : List Float) (indices : List ℕ)
-    (r : ℕ) (output' : List ℤ) (numbers' : List Float) (indices' : List ℕ) : Type 0 where
-  pub number : r ≡ coloringFault u m n (length output) (length numbers) (length indices)
-  pub colours : output' ≡ pick (eqb r 0) (coloursOf u m n seed) output
-  pub floats : numbers' ≡ pick (eqb r 0) (repeated plusZero (length numbers)) numbers
-  pub words : indices' ≡ pick (eqb r 0) (repeated 0 (length indices)) indices
+    (r : Colored) (output' : List ℤ) (numbers' : List Float) (indices' : List ℕ) : Type 0 where
+  pub number : r .number ≡ coloringFault u m n (length output) (length numbers) (length indices)
+  pub directions : r .directions ≡ pick (eqb (r .number) 0) (coloringOf plusZero (columnsOf u n) m n seed .directions) 0
+  pub sweeps : r .sweeps ≡ pick (eqb (r .number) 0) (coloringOf plusZero (columnsOf u n) m n seed .sweeps) 0
+  pub colours : output' ≡ pick (eqb (r .number) 0) (coloursOf u m n seed) output
+  pub floats : numbers' ≡ pick (eqb (r .number) 0) (repeated plusZero (length numbers)) numbers
+  pub words : indices' ≡ pick (eqb (r .number) 0) (repeated 0 (length indices)) indices

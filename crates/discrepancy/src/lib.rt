@@ -1,4 +1,5 @@
 // The public colouring of a lent matrix.
+use coloring::Counted;
 use coloring::coloring;
 use draw::SplitMix64;
 use limits::all_bounded;
@@ -14,9 +15,18 @@ ghost use lib.ListN.{length};
 ghost use Rattle.seq.specs.Lists.{tabulate};
 ghost use Rattle.seq.specs.Sums.{plusZero};
 ghost use Rattle.coloring.specs.Coloring.{coloringOf};
+ghost use Rattle.coloring.specs.Fresh.{ColoredAs};
 ghost use Rattle.limits.specs.Limits.{bounded};
 ghost use Rattle.limits.specs.Matrix.{columnsOf};
 ghost use Rattle.discrepancy.specs.Discrepancy.{mostEntry, coloringFault, colourAt, DiscrepancyColored};
+
+// The answer of a colouring: 0 or the number of a refusal, how many directions were drawn, and how many sweeps made.
+#[repr(C)]
+pub struct Colored {
+    pub number: u64,
+    pub directions: u64,
+    pub sweeps: u64,
+}
 
 // The lowest refusal number that applies, or 0.
 fn coloring_fault(
@@ -66,10 +76,10 @@ fn color_all(
     x: &mut [f64],
     numbers: &mut [f64],
     indices: &mut [u32],
-)
+) -> Counted
     requires { ⌜ (length (now matrix) ≡ m * n) × (m ≤ 256) × (n ≤ 4096) × (length (now x) ≡ m) × (n + n + n + m * m ≤ length (now numbers))
         × (n ≤ length (now indices)) × (bounded mostEntry (now matrix) ≡ true) ⌝ }
-    ensures { λ _. ⌜ now (x .exit) ≡ coloringOf plusZero (columnsOf (now (matrix .entry)) n) m n seed .x ⌝ }
+    ensures { λ r. ⌜ ColoredAs (now (x .exit)) r (coloringOf plusZero (columnsOf (now (matrix .entry)) n) m n seed) ⌝ }
 {
     let mut cols = [0u32; 256];
     let mut scale = [0.0f64; 256];
@@ -84,7 +94,7 @@ fn color_all(
         numbers,
         &mut indices[..n],
         SplitMix64::new(seed),
-    );
+    )
 }
 
 // 1 for a colour above 0, and -1 for one below.
@@ -99,8 +109,8 @@ fn write_colours(output: &mut [i8], x: &[f64])
     }
 }
 
-// Colours the m columns of n rows, 1 or -1 each, so that every row's sum is small. Answers 0, or the number of a refusal, which
-// changes nothing.
+// Colours the m columns of n rows, 1 or -1 each, so that every row's sum is small. A refusal changes nothing, and has zeros
+// beside its number.
 pub fn discrepancy_coloring(
     matrix: &[f64],
     m: usize,
@@ -109,16 +119,20 @@ pub fn discrepancy_coloring(
     output: &mut [i8],
     numbers: &mut [f64],
     indices: &mut [u32],
-) -> u64
+) -> Colored
     ensures { λ r. ⌜ DiscrepancyColored (now (matrix .entry)) m n seed (now (output .entry)) (now (numbers .entry))
         (now (indices .entry)) r (now (output .exit)) (now (numbers .exit)) (now (indices .exit)) ⌝ }
 {
     let number = coloring_fault(matrix, m, n, output.len(), numbers.len(), indices.len());
     if number != 0 {
-        return number;
+        return Colored {
+            number,
+            directions: 0,
+            sweeps: 0,
+        };
     }
     let mut x = [0.0f64; 256];
-    color_all(
+    let c = color_all(
         matrix,
         m,
         n,
@@ -130,5 +144,9 @@ pub fn discrepancy_coloring(
     write_colours(output, &x[..m]);
     clear(numbers);
     clear_words(indices);
-    0
+    Colored {
+        number: 0,
+        directions: c.directions as u64,
+        sweeps: c.sweeps as u64,
+    }
 }

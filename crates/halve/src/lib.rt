@@ -32,7 +32,7 @@ fn halve_some(
     ensures { λ r. ⌜ HalvedBy (coloringOf plusZero (scaledColumns (columnsOf (now (matrix .entry)) n) n (now (w .entry)) omega (now (some .entry))) (length (now (some .entry))) (suc n) (rng .state)) (now (w .entry)) (now (some .entry)) (now (w .exit)) (r .state) ⌝ }
 {
     scales_into(&mut scale[..], &w[..], omega, some);
-    let r = coloring(
+    let c = coloring(
         matrix,
         n,
         some,
@@ -44,6 +44,7 @@ fn halve_some(
     );
     let sigma = sigma_of(&x[..]);
     double_or_zero(w, some, &x[..], sigma);
+    let r = c.rng;
     r
 }
 

@@ -1,4 +1,5 @@
 // The C interface: nothing but exported calls. include/knobthistle.h declares them.
+use discrepancy::Colored;
 use discrepancy::discrepancy_coloring;
 use draw::SplitMix64;
 use margins::max_margin_change;
@@ -114,7 +115,7 @@ pub extern "C" fn knob_discrepancy_coloring(
     output: &mut [i8],
     numbers: &mut [f64],
     indices: &mut [u32],
-) -> u64
+) -> Colored
     ensures { λ r. ⌜ DiscrepancyColored (now (matrix .entry)) m n seed (now (output .entry)) (now (numbers .entry)) (now (indices .entry)) r (now (output .exit)) (now (numbers .exit)) (now (indices .exit)) ⌝ }
 {
     discrepancy_coloring(matrix, m, n, seed, output, numbers, indices)

@@ -1,7 +1,7 @@
 -- A phase on the columns at some places: what is chosen there is a matrix of its own, whose entries are those at the places,
 -- and what the phase leaves, put back, is what the definition of a phase says.
-use Prim.Native.Nat.{ℕ, _≤_, _<_}
-use mathlib.Core.Path.{_≡_, sym, ap, _∙_}
+use Prim.Native.Nat.{ℕ, _+_, _≤_, _<_}
+use mathlib.Core.Path.{_≡_, sym, ap, _∙_, subst}
 use mathlib.Core.Logic.{_≢_}
 use mathlib.Core.Bool.{Bool, true, false}
 use mathlib.Core.List.{List}
@@ -23,7 +23,9 @@ use Rattle.entries.specs.Entries.{entryOf}
 use Rattle.entries.specs.ChosenColumns.{Chosen}
 use Rattle.freeze.specs.Freeze.{Walk}
 use Rattle.begin.specs.Begin.{begun}
-use Rattle.walk.specs.Walk.{phaseOf}
+use Rattle.walk.specs.Walk.{courseOf}
+use Rattle.walk.specs.Walking.{CourseHolds}
+use Rattle.walk.specs.declared.Phased.{Phased}
 use Rattle.freeze.specs.Held.{axIn, Roomy}
 use Rattle.places.specs.Places.{chosen, putBack, roundedAt, wordsAt}
 use Rattle.phasing.specs.Phase.{Between, roundedOff, phased}
@@ -71,11 +73,11 @@ module _ (u : List Float) (n : ℕ) (cols : List ℕ) (scale : List Float) (plac
   matrix = entryOf u n cols scale
 
   -- the phase on the chosen columns is the phase on those at the places
-  inside-is : phaseOf plusZero (entryOf u n (wordsAt cols places) (chosen scale places)) (length places) rows
+  inside-is : courseOf plusZero (entryOf u n (wordsAt cols places) (chosen scale places)) (length places) rows
       (begun plusZero (entryOf u n (wordsAt cols places) (chosen scale places)) (length places) rows (chosen x places) (axIn rows num) rng)
       ≡ insideOf matrix rows places rng num x
   inside-is =
-      ap (phaseOf plusZero (entryOf u n (wordsAt cols places) (chosen scale places)) (length places) rows)
+      ap (courseOf plusZero (entryOf u n (wordsAt cols places) (chosen scale places)) (length places) rows)
       (begun-same plusZero (entryOf u n (wordsAt cols places) (chosen scale places)) (λ p. matrix (getD places p 0)) (length places) rows
       (λ p i h _. entry-chosen u n cols scale places p h i) (chosen x places) (axIn rows num) rng)
       ∙ phase-same plusZero (entryOf u n (wordsAt cols places) (chosen scale places)) (λ p. matrix (getD places p 0)) (length places) rows
@@ -83,22 +85,24 @@ module _ (u : List Float) (n : ℕ) (cols : List ℕ) (scale : List Float) (plac
 
   module _ (some-cols : List ℕ) (some-scale some-x : List Float)
       (ec : some-cols ≡ wordsAt cols places) (es : some-scale ≡ chosen scale places) (ex : some-x ≡ chosen x places) where
-    pub phased-at : (w : Walk) (num' x' : List Float) (free' : List ℕ) (frozen rng' : ℕ)
-        → w ≡ phaseOf plusZero (entryOf u n some-cols some-scale) (length some-cols) rows
-        (begun plusZero (entryOf u n some-cols some-scale) (length some-cols) rows some-x (axIn rows num) rng)
-        → frozen ≡ w .frozen → axIn rows num' ≡ w .ax → rng' ≡ w .rng
-        → x' ≡ putBack plusZero places (w .x) x (length places)
-        → free' ≡ putBack 0 places (w .free) free (length places)
-        → PhasedAt matrix rows places rng num x free frozen rng' num' x' free'
-    phased-at w num' x' free' frozen rng' e ef ea er mx mf =
+    pub phased-at : {num' : List Float} {blocked' : List ℕ} {sub-x : List Float} {sub-free : List ℕ} {x' : List Float} {free' : List ℕ} {r : Phased}
+        → CourseHolds num' blocked' sub-x sub-free r (courseOf plusZero (entryOf u n some-cols some-scale) (length some-cols) rows
+        (begun plusZero (entryOf u n some-cols some-scale) (length some-cols) rows some-x (axIn rows num) rng))
+        → length blocked' ≡ rows
+        → x' ≡ putBack plusZero places sub-x x (length places)
+        → free' ≡ putBack 0 places sub-free free (length places)
+        → PhasedAt matrix rows places rng num x free r num' x' free'
+    phased-at {num'} {blocked'} {sub-x} {sub-free} {x'} {free'} {r} h lb mx mf =
         let lc : length (wordsAt cols places) ≡ length places = length-tab {A = ℕ} (λ q. getD cols (getD places q 0) 0) (length places) in
-        let i : w ≡ insideOf matrix rows places rng num x = rw (ec, es, ex, lc) at e ∙ inside-is in
+        let i : CourseHolds num' blocked' sub-x sub-free r (insideOf matrix rows places rng num x) =
+        subst (CourseHolds num' blocked' sub-x sub-free r) inside-is (rw (ec, es, ex, lc) at h) in
         record {
-          froze = ef ∙ ap (λ (v : Walk). v .frozen) i;
-          moves = mx ∙ ap (λ (v : Walk). putBack plusZero places (v .x) x (length places)) i;
-          marks = mf ∙ ap (λ (v : Walk). putBack 0 places (v .free) free (length places)) i;
-          ax = ea ∙ ap (λ (v : Walk). v .ax) i;
-          draws = er ∙ ap (λ (v : Walk). v .rng) i;
+          froze = ap (λ (w : Walk). w .frozen) (i .walk);
+          moves = mx ∙ ap (λ (w : Walk). putBack plusZero places (w .x) x (length places)) (i .walk);
+          marks = mf ∙ ap (λ (w : Walk). putBack 0 places (w .free) free (length places)) (i .walk);
+          ax = ap (λ (k : ℕ). axIn k num') (sym lb) ∙ ap (λ (w : Walk). w .ax) (i .walk);
+          draws = ap (λ (w : Walk). w .rng) (i .walk);
+          counts = i .directions;
         }
 
 -- ---- a phase on the free columns
@@ -112,34 +116,38 @@ places-below free places k l e p =
 pub places-few : (free places : List ℕ) (k l : ℕ) → length free ≡ k → Pushed (keep (isSet free) (length free)) l places → l ≤ k
 places-few free places k l e p = omega (arith, e, p .long, keep-short (isSet free) (length free))
 
-module _ (a : ℕ → ℕ → Float) (k rows : ℕ) (rng : ℕ) (num x : List Float) (free places : List ℕ) (frozen rng' : ℕ) (num' x' : List Float) (free' : List ℕ)
-    (is : places ≡ keep (isSet free) k) (at : PhasedAt a rows places rng num x free frozen rng' num' x' free') where
+module _ (a : ℕ → ℕ → Float) (k rows : ℕ) (rng : ℕ) (num x : List Float) (free places : List ℕ) (r : Phased) (num' x' : List Float) (free' : List ℕ)
+    (is : places ≡ keep (isSet free) k) (at : PhasedAt a rows places rng num x free r num' x' free') (d : ℕ) where
   -- what stands once the phase's coordinates are back at some places
   abbrev after : List ℕ → Between
   after ps = record {
-    x = putBack plusZero ps (insideOf a rows ps rng num x .x) x (length ps);
-    free = putBack 0 ps (insideOf a rows ps rng num x .free) free (length ps);
-    ax = insideOf a rows ps rng num x .ax;
-    rng = insideOf a rows ps rng num x .rng;
+    x = putBack plusZero ps (insideOf a rows ps rng num x .walk .x) x (length ps);
+    free = putBack 0 ps (insideOf a rows ps rng num x .walk .free) free (length ps);
+    ax = insideOf a rows ps rng num x .walk .ax;
+    rng = insideOf a rows ps rng num x .walk .rng;
+    directions = d + insideOf a rows ps rng num x .directions;
   }
 
-  stands : between rows num' x' free' rng' ≡ after places
-  stands = rw (at .moves, at .marks, at .ax, at .draws)
+  stands : between rows num' x' free' (r .at .rng .state) (d + r .directions) ≡ after places
+  stands = rw (at .moves, at .marks, at .ax, at .draws, at .counts)
 
-  picks : (t : Bool) → eqb frozen 0 ≡ t → phased plusZero a k rows (between rows num x free rng) ≡ pick t (roundedOff (after places)) (after places)
+  picks : (t : Bool) → eqb (r .at .frozen) 0 ≡ t
+      → phased plusZero a k rows (between rows num x free rng d) ≡ pick t (roundedOff (after places)) (after places)
   unfolding phased
   picks t e =
-      let f : eqb (insideOf a rows (keep (isSet free) k) rng num x .frozen) 0 ≡ t = rw (at .froze, is) at e in
+      let f : eqb (insideOf a rows (keep (isSet free) k) rng num x .walk .frozen) 0 ≡ t = rw (at .froze, is) at e in
       rw is (ap (λ (s : Bool). pick s (roundedOff (after (keep (isSet free) k))) (after (keep (isSet free) k))) f)
 
   -- a phase that froze some
-  pub phase-goes : frozen ≢ 0 → between rows num' x' free' rng' ≡ phased plusZero a k rows (between rows num x free rng)
-  phase-goes f = stands ∙ sym (picks false (ne-eqb frozen 0 f))
+  pub phase-goes : r .at .frozen ≢ 0
+      → between rows num' x' free' (r .at .rng .state) (d + r .directions) ≡ phased plusZero a k rows (between rows num x free rng d)
+  phase-goes f = stands ∙ sym (picks false (ne-eqb (r .at .frozen) 0 f))
 
   -- a phase that froze none: what is free is rounded
-  pub phase-rounds : (x'' : List Float) (free'' : List ℕ) → frozen ≡ 0
+  pub phase-rounds : (x'' : List Float) (free'' : List ℕ) → r .at .frozen ≡ 0
       → x'' ≡ tabulate (roundedAt x' free') (length x') → free'' ≡ repeated 0 (length free')
-      → between rows num' x'' free'' rng' ≡ phased plusZero a k rows (between rows num x free rng)
+      → between rows num' x'' free'' (r .at .rng .state) (d + r .directions) ≡ phased plusZero a k rows (between rows num x free rng d)
   phase-rounds x'' free'' f ex ef =
-      let r : between rows num' x'' free'' rng' ≡ roundedOff (between rows num' x' free' rng') = rw (ex, ef) in
-      r ∙ ap roundedOff stands ∙ sym (picks true (eq-eqb frozen 0 f))
+      let s : between rows num' x'' free'' (r .at .rng .state) (d + r .directions)
+      ≡ roundedOff (between rows num' x' free' (r .at .rng .state) (d + r .directions)) = rw (ex, ef) in
+      s ∙ ap roundedOff stands ∙ sym (picks true (eq-eqb (r .at .frozen) 0 f))

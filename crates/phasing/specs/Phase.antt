@@ -1,5 +1,5 @@
 -- One phase of the walk, on the free columns of k columns of n rows.
-use Prim.Native.Nat.{ℕ}
+use Prim.Native.Nat.{ℕ, _+_}
 use mathlib.Core.List.{List}
 use lib.Dec.{eqb}
 use lib.ListN.{length, getD}
@@ -9,17 +9,17 @@ use Rattle.seq.specs.Lists.{tabulate, repeated}
 use Rattle.seq.specs.Sums.{plusZero}
 use Rattle.seq.specs.Keep.{keep}
 use Rattle.seq.specs.Marks.{isSet}
-use Rattle.freeze.specs.Freeze.{Walk}
 use Rattle.begin.specs.Begin.{begun}
-use Rattle.walk.specs.Walk.{phaseOf}
+use Rattle.walk.specs.Walk.{Course, courseOf}
 use Rattle.places.specs.Places.{chosen, putBack, roundedAt}
 
--- what stands between two phases: all k coordinates, which of them are free, A x, and the generator
+-- what stands between two phases: all k coordinates, which of them are free, A x, the generator, and how many directions were drawn
 pub record Between : Type 0 where
   pub x : List Float
   pub free : List ℕ
   pub ax : List Float
   pub rng : ℕ
+  pub directions : ℕ
 
 -- a phase that froze nothing is the last: what is free is rounded
 abbrev pub roundedOff : Between → Between
@@ -28,6 +28,7 @@ roundedOff b = record {
   free = repeated 0 (length (b .free));
   ax = b .ax;
   rng = b .rng;
+  directions = b .directions;
 }
 
 -- one phase, on the free columns
@@ -36,11 +37,12 @@ phased z a k n b =
     let phase : List ℕ = keep (isSet (b .free)) k in
     let l : ℕ = length phase in
     let inside : ℕ → ℕ → Float = λ p. a (getD phase p 0) in
-    let w : Walk = phaseOf z inside l n (begun z inside l n (chosen (b .x) phase) (b .ax) (b .rng)) in
+    let c : Course = courseOf z inside l n (begun z inside l n (chosen (b .x) phase) (b .ax) (b .rng)) in
     let after : Between = record {
-      x = putBack plusZero phase (w .x) (b .x) l;
-      free = putBack 0 phase (w .free) (b .free) l;
-      ax = w .ax;
-      rng = w .rng;
+      x = putBack plusZero phase (c .walk .x) (b .x) l;
+      free = putBack 0 phase (c .walk .free) (b .free) l;
+      ax = c .walk .ax;
+      rng = c .walk .rng;
+      directions = b .directions + c .directions;
     } in
-    pick (eqb (w .frozen) 0) (roundedOff after) after
+    pick (eqb (c .walk .frozen) 0) (roundedOff after) after

@@ -5,28 +5,29 @@ use mathlib.Core.List.{List}
 use lib.ListN.{length, getD}
 use lib.Ieee.{Float}
 use Rattle.seq.specs.Sums.{plusZero}
-use Rattle.freeze.specs.Freeze.{Walk}
 use Rattle.begin.specs.Begin.{begun}
-use Rattle.walk.specs.Walk.{phaseOf}
+use Rattle.walk.specs.Walk.{Course, courseOf}
+use Rattle.walk.specs.declared.Phased.{Phased}
 use Rattle.places.specs.Places.{chosen, putBack}
 use Rattle.phasing.specs.Phase.{Between}
 use Rattle.freeze.specs.Held.{axIn}
 
 -- what the scratch and the vectors over the columns hold between two phases
-abbrev pub between : ℕ → List Float → List Float → List ℕ → ℕ → Between
-between rows num x free rng = record { x = x; free = free; ax = axIn rows num; rng = rng }
+abbrev pub between : ℕ → List Float → List Float → List ℕ → ℕ → ℕ → Between
+between rows num x free rng directions = record { x = x; free = free; ax = axIn rows num; rng = rng; directions = directions }
 
--- the walk of a phase on the columns at some places
-abbrev pub insideOf : (ℕ → ℕ → Float) → ℕ → List ℕ → ℕ → List Float → List Float → Walk
+-- how a phase on the columns at some places goes
+abbrev pub insideOf : (ℕ → ℕ → Float) → ℕ → List ℕ → ℕ → List Float → List Float → Course
 insideOf a rows places rng num x =
-    phaseOf plusZero (λ p. a (getD places p 0)) (length places) rows
+    courseOf plusZero (λ p. a (getD places p 0)) (length places) rows
     (begun plusZero (λ p. a (getD places p 0)) (length places) rows (chosen x places) (axIn rows num) rng)
 
 -- that phase was made, and its coordinates are back at their places
 pub record PhasedAt (a : ℕ → ℕ → Float) (rows : ℕ) (places : List ℕ) (rng : ℕ) (num x : List Float) (free : List ℕ)
-    (frozen rng' : ℕ) (num' x' : List Float) (free' : List ℕ) : Type 0 where
-  pub froze : frozen ≡ insideOf a rows places rng num x .frozen
-  pub moves : x' ≡ putBack plusZero places (insideOf a rows places rng num x .x) x (length places)
-  pub marks : free' ≡ putBack 0 places (insideOf a rows places rng num x .free) free (length places)
-  pub ax : axIn rows num' ≡ insideOf a rows places rng num x .ax
-  pub draws : rng' ≡ insideOf a rows places rng num x .rng
+    (r : Phased) (num' x' : List Float) (free' : List ℕ) : Type 0 where
+  pub froze : r .at .frozen ≡ insideOf a rows places rng num x .walk .frozen
+  pub moves : x' ≡ putBack plusZero places (insideOf a rows places rng num x .walk .x) x (length places)
+  pub marks : free' ≡ putBack 0 places (insideOf a rows places rng num x .walk .free) free (length places)
+  pub ax : axIn rows num' ≡ insideOf a rows places rng num x .walk .ax
+  pub draws : r .at .rng .state ≡ insideOf a rows places rng num x .walk .rng
+  pub counts : r .directions ≡ insideOf a rows places rng num x .directions

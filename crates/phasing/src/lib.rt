@@ -7,9 +7,10 @@ use places::put_back;
 use places::put_back_words;
 use places::round_free;
 use seq::fill_words;
+use walk::Phased;
 use walk::phase;
 ghost use mathlib.Core.Path.{_≡_};
-ghost use Prim.Native.Nat.{_≤_};
+ghost use Prim.Native.Nat.{ℕ, _≤_, _+_};
 ghost use lib.ListN.{length};
 ghost use Rattle.seq.specs.Sums.{plusZero};
 ghost use Rattle.seq.specs.Indices.{Below};
@@ -18,12 +19,6 @@ ghost use Rattle.entries.specs.ChosenColumns.{Chosen};
 ghost use Rattle.freeze.specs.Held.{Roomy};
 ghost use Rattle.phasing.specs.Phase.{phased};
 ghost use Rattle.phasing.specs.Phasing.{between, PhasedAt};
-
-// How many coordinates froze, and the generator.
-struct Phased {
-    frozen: usize,
-    rng: SplitMix64,
-}
 
 // A phase on the columns at some places. The last five slices are room: for what is chosen there, and for a direction.
 fn phase_on(
@@ -50,12 +45,12 @@ fn phase_on(
         × (length (now subfree) ≡ length (now places)) × (length (now g) ≡ length (now places)) ⌝ }
     ensures { λ r. ⌜ PhasedAt (entryOf (now (u .entry)) n (now (cols .entry)) (now (scale .entry)))
         (length (now (blocked .entry))) (now (places .entry)) (rng .state) (now (num .entry)) (now (x .entry))
-        (now (free .entry)) (r .frozen) (r .rng .state) (now (num .exit)) (now (x .exit)) (now (free .exit)) ⌝ }
+        (now (free .entry)) r (now (num .exit)) (now (x .exit)) (now (free .exit)) ⌝ }
 {
     choose_words(&mut subcols[..], cols, places);
     choose(&mut subscale[..], scale, places);
     choose(&mut subx[..], &x[..], places);
-    let at = phase(
+    let p = phase(
         num,
         blocked,
         &mut subx[..],
@@ -69,11 +64,7 @@ fn phase_on(
     );
     put_back(x, places, &subx[..]);
     put_back_words(free, places, &subfree[..]);
-    let r = at.rng;
-    Phased {
-        frozen: at.frozen,
-        rng: r,
-    }
+    p
 }
 
 // A phase on the free columns; a phase that freezes nothing rounds them. The last six slices are room, for as much as there are columns.
@@ -93,16 +84,17 @@ pub fn next_phase(
     subx: &mut [f64],
     subfree: &mut [u32],
     g: &mut [f64],
-) -> SplitMix64
+) -> Phased
     requires { ⌜ Chosen (now u) n (now cols) (now scale) (length (now blocked)) × Roomy (length (now cols)) (now num)
         (now blocked) (now x) (now free) 0 ⌝ }
     requires { ⌜ (length (now cols) ≤ length (now places)) × (length (now cols) ≤ length (now subcols)) ×
         (length (now cols) ≤ length (now subscale))
         × (length (now cols) ≤ length (now subx)) × (length (now cols) ≤ length (now subfree)) × (length (now cols) ≤ length (now g)) ⌝ }
-    ensures { λ r. ⌜ between (length (now (blocked .entry))) (now (num .exit)) (now (x .exit)) (now (free .exit))
-        (r .state) ≡ phased plusZero (entryOf (now (u .entry)) n (now (cols .entry)) (now (scale .entry)))
-        (length (now (cols .entry))) (length (now (blocked .entry)))
-        (between (length (now (blocked .entry))) (now (num .entry)) (now (x .entry)) (now (free .entry)) (rng .state)) ⌝ }
+    ensures { λ r. ⌜ ((d : ℕ) → between (length (now (blocked .entry))) (now (num .exit)) (now (x .exit)) (now (free .exit))
+        (r .at .rng .state) (d + r .directions) ≡ phased plusZero
+        (entryOf (now (u .entry)) n (now (cols .entry)) (now (scale .entry))) (length (now (cols .entry)))
+        (length (now (blocked .entry))) (between (length (now (blocked .entry))) (now (num .entry)) (now (x .entry))
+        (now (free .entry)) (rng .state) d)) ⌝ }
 {
     let l = free_places(&mut places[..], &free[..]);
     let p = phase_on(
@@ -122,10 +114,9 @@ pub fn next_phase(
         &mut subfree[..l],
         &mut g[..l],
     );
-    if p.frozen == 0 {
+    if p.at.frozen == 0 {
         round_free(x, &free[..]);
         fill_words(free, 0);
     }
-    let r = p.rng;
-    r
+    p
 }

@@ -1,6 +1,6 @@
 -- Every step of a colouring is the original's, where the matrix of each phase is fair.
 use mathlib.Core.Path.{_≡_, refl, sym, ap, _∙_, subst}
-use Prim.Native.Nat.{ℕ, zero, suc, _≤_, _<_}
+use Prim.Native.Nat.{ℕ, zero, suc, _+_, _≤_, _<_}
 use native.Mathlib.Nat.{le-trans, le-of-eq}
 use native.Mathlib.Decide.{decLt}
 use native.Mathlib.Omega.{arith}
@@ -22,7 +22,7 @@ use Rattle.ieee.proofs.Signs.{nought-finite}
 use Rattle.seq.specs.Marks.{isSet}
 use Rattle.freeze.specs.Freeze.{freezeLimit, Walk}
 use Rattle.begin.specs.Begin.{begun}
-use Rattle.walk.specs.Walk.{stepOf, phaseOf, freeOnes}
+use Rattle.walk.specs.Walk.{stepOf, courseOf, phaseOf, freeOnes}
 use Rattle.places.specs.Places.{chosen, putBack}
 use Rattle.places.proofs.Places.{off, getD-any, back-at, back-other, length-putBack, count-before}
 use Rattle.phasing.specs.Phase.{Between, roundedOff, phased}
@@ -108,6 +108,7 @@ module _ (a : ℕ → ℕ → Float) (k n : ℕ) where
       free = putBack 0 places (w .free) (b .free) l;
       ax = w .ax;
       rng = w .rng;
+      directions = b .directions + courseOf plusZero (entriesAt a k b) l n (beginsAt plusZero a k n b) .directions;
     }
 
     -- a column that is free after it was free before, and has the coordinate of the phase's walk
@@ -169,7 +170,7 @@ module _ (a : ℕ → ℕ → Float) (k n : ℕ) where
 
   -- ---- the whole walk
 
-  fresh : (rng : Generator) → Apart k (record { x = repeated plusZero k; free = repeated 1 k; ax = repeated plusZero n; rng = rng })
+  fresh : (rng : Generator) → Apart k (record { x = repeated plusZero k; free = repeated 1 k; ax = repeated plusZero n; rng = rng; directions = 0 })
   fresh rng =
       let x-is : (j : ℕ) → j < k → at (repeated plusZero k) j ≡ plusZero = λ j h. getD-tab (λ (i : ℕ). plusZero) k j nan h in
       record {

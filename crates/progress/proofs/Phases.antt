@@ -8,10 +8,10 @@ use Rattle.seq.specs.Choice.{pick}
 use Rattle.seq.specs.Sums.{plusZero}
 use Rattle.seq.specs.Until.{run}
 use Rattle.freeze.specs.Freeze.{Walk}
-use Rattle.walk.specs.Walk.{Stepped, stepOf, ended, left, freeOnes, phaseOf}
+use Rattle.walk.specs.Walk.{Stepped, Course, further, ended, left, freeOnes, courseFrom, phaseOf}
 use Rattle.walk.proofs.Ending.{fuel}
-use Rattle.coloring.proofs.Marked.{run-keeps}
-use Rattle.progress.specs.Original.{stepOn, phaseOn}
+use Rattle.walk.proofs.Counts.{run-keeps}
+use Rattle.progress.specs.Original.{furtherOn, phaseOn}
 use Rattle.progress.proofs.Standing.{Fair, Standing}
 use Rattle.progress.proofs.Steps.{step-on, step-stands}
 
@@ -27,26 +27,29 @@ module _ (a : ℕ → ℕ → Float) (l n : ℕ) (fair : Fair a l n) where
   abbrev good : List (List Float) → Type 0
   good = fair .Good
 
-  abbrev next : Stepped → Stepped
-  next s = stepOf plusZero a l n (s .walk)
+  abbrev next : Course → Course
+  next c = further plusZero a l n c
 
-  abbrev stands : Stepped → Type 0
-  stands s = Standing l good (s .walk)
+  abbrev stands : Course → Type 0
+  stands c = Standing l good (c .walk)
+
+  abbrev start : Walk → Course
+  start w = record { more = true; walk = w; directions = 0 }
 
   -- the walk stands before each step
-  pub always-stands : (w : Walk) → Standing l good w → (j : ℕ) → Standing l good (run (ended l) next j (record { more = true; walk = w }) .walk)
-  always-stands w s j = run-keeps stands (ended l) next (λ t p. step-stands a l n fair (t .walk) p) j (record { more = true; walk = w }) s
+  pub always-stands : (w : Walk) → Standing l good w → (j : ℕ) → Standing l good (run (ended l) next j (start w) .walk)
+  always-stands w s j = run-keeps stands (ended l) next (λ c _ p. step-stands a l n fair (c .walk) p) j (start w) s
 
   pub phase-stands : (w : Walk) → Standing l good w → Standing l good (phaseOf plusZero a l n w)
-  unfolding phaseOf
-  phase-stands w s = always-stands w s (left (record { more = true; walk = w }))
+  unfolding courseFrom
+  phase-stands w s = always-stands w s (left (start w))
 
   -- so the phase is the original's
   pub phase-on : (w : Walk) → Standing l good w → (k : ℕ) → suc (freeOnes (w .free)) ≤ k → phaseOn plusZero a l n k w ≡ phaseOf plusZero a l n w
-  unfolding phaseOf phaseOn
+  unfolding courseFrom phaseOn
   phase-on w s k h =
-      let first : Stepped = record { more = true; walk = w } in
-      ap (λ (t : Stepped). t .walk)
-      (sym (run-agrees stands (ended l) next (λ t. stepOn plusZero a l n (t .walk)) (λ t p. step-on a l n fair (t .walk) p)
-      (λ t p. step-stands a l n fair (t .walk) p) k first s)
-      ∙ fuel plusZero a l n k first h)
+      ap (λ (c : Course). c .walk)
+      (sym (run-agrees stands (ended l) next (furtherOn plusZero a l n)
+      (λ c p. ap (λ (t : Stepped). record { more = t .more; walk = t .walk; directions = suc (c .directions) }) (step-on a l n fair (c .walk) p))
+      (λ c p. step-stands a l n fair (c .walk) p) k (start w) s)
+      ∙ fuel plusZero a l n k (start w) h)

@@ -1,6 +1,6 @@
 -- The walk by the original's rule: a step that freezes nothing does not end its phase. The original has no bound on the steps of a phase;
 -- here it is the fuel.
-use Prim.Native.Nat.{ℕ, _<_}
+use Prim.Native.Nat.{ℕ, suc, _<_}
 use mathlib.Core.Path.{_≡_}
 use mathlib.Core.Bool.{Bool, true, not, _&&_}
 use mathlib.Core.List.{List}
@@ -17,7 +17,7 @@ use Rattle.direction.specs.Step.{reachTo}
 use Rattle.entries.specs.Rows.{times}
 use Rattle.freeze.specs.Freeze.{Walk}
 use Rattle.begin.specs.Begin.{begun}
-use Rattle.walk.specs.Walk.{Stepped, stepOf, ended, phaseOf}
+use Rattle.walk.specs.Walk.{Stepped, stepOf, Course, further, ended, phaseOf}
 use Rattle.places.specs.Places.{chosen}
 use Rattle.phasing.specs.Phase.{Between, phased}
 use Rattle.coloring.specs.Coloring.{settled}
@@ -41,16 +41,22 @@ goesOn z a l n w =
 unfoldable pub stepOn : Float → (ℕ → ℕ → Float) → ℕ → ℕ → Walk → Stepped
 stepOn z a l n w = record { more = goesOn z a l n w; walk = stepOf z a l n w .walk }
 
+-- one step more, and its direction is counted
+abbrev pub furtherOn : Float → (ℕ → ℕ → Float) → ℕ → ℕ → Course → Course
+furtherOn z a l n c =
+    let s : Stepped = stepOn z a l n (c .walk) in
+    record { more = s .more; walk = s .walk; directions = suc (c .directions) }
+
 -- a phase of at most so many steps
 unfoldable pub phaseOn : Float → (ℕ → ℕ → Float) → ℕ → ℕ → ℕ → Walk → Walk
-phaseOn z a l n fuel w = run (ended l) (λ s. stepOn z a l n (s .walk)) fuel (record { more = true; walk = w }) .walk
+phaseOn z a l n fuel w = run (ended l) (furtherOn z a l n) fuel (record { more = true; walk = w; directions = 0 }) .walk
 
 -- ---- the phases of a walk on k columns and n rows, as the product makes them
 
 -- what stands before phase i
 abbrev pub before : Float → (ℕ → ℕ → Float) → ℕ → ℕ → Generator → ℕ → Between
 before z a k n rng i =
-    run settled (phased z a k n) i (record { x = repeated plusZero k; free = repeated 1 k; ax = repeated plusZero n; rng = rng })
+    run settled (phased z a k n) i (record { x = repeated plusZero k; free = repeated 1 k; ax = repeated plusZero n; rng = rng; directions = 0 })
 
 -- the columns that are free there
 abbrev pub columnsAt : ℕ → Between → List ℕ
@@ -68,7 +74,7 @@ beginsAt z a k n b = begun z (entriesAt a k b) (length (columnsAt k b)) n (chose
 abbrev pub walkAt : Float → (ℕ → ℕ → Float) → ℕ → ℕ → Between → ℕ → Walk
 walkAt z a k n b j =
     let l : ℕ = length (columnsAt k b) in
-    run (ended l) (λ s. stepOf z (entriesAt a k b) l n (s .walk)) j (record { more = true; walk = beginsAt z a k n b }) .walk
+    run (ended l) (further z (entriesAt a k b) l n) j (record { more = true; walk = beginsAt z a k n b; directions = 0 }) .walk
 
 -- Every step gets somewhere, in the colouring of k columns and n rows: each step of each phase is the original's, so that none ends
 -- its phase by freezing nothing, and each phase is the original's with any fuel above k.

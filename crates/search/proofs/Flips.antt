@@ -14,8 +14,8 @@ use Rattle.linear.specs.Vectors.{maxAbsOf}
 use Rattle.ieee.specs.Magnitude.{maxAbsTo}
 use Rattle.columns.specs.Kernels.{lessColumn}
 use Rattle.ieee.specs.Constants.{two}
-use Rattle.search.specs.Search.{improvement, Search, improves, flipped, sweepTo, sweptOf, searchTo, searched}
-use Rattle.search.specs.Searching.{searchOf, Tried, Swept}
+use Rattle.search.specs.Search.{Searched, improvement, Search, improves, flipped, sweepTo, sweptOf, searchTo, searched}
+use Rattle.search.specs.Searching.{searchOf, Tried, Swept, searchedIn}
 use Rattle.search.specs.declared.Found.{Found}
 
 -- ---- one column
@@ -43,29 +43,33 @@ sweep-turn a from s t j e r = r .is ∙ rw (add-one j, e)
 
 module _ (a : ℕ → ℕ → Float) (m : ℕ) where
   -- whether the sweep before it flipped one does not matter to the next
-  afresh : (sweeps : ℕ) (s : Search) → searchTo a m sweeps s .x ≡ searchTo a m sweeps (record { x = s .x; ax = s .ax; best = s .best; improved = false }) .x
+  afresh : (left made : ℕ) (s : Search)
+      → searchTo a m left made s ≡ searchTo a m left made (record { x = s .x; ax = s .ax; best = s .best; improved = false })
   unfolding searchTo
-  afresh zero s = refl
-  afresh (suc sweeps) s = refl
+  afresh zero made s = refl
+  afresh (suc left) made s = refl
 
   -- a sweep that flips one is followed by the others, and one that flips none is the last
-  goes-on : (sweeps : ℕ) (s : Search) → sweptOf a m s .improved ≡ true → searchTo a m (suc sweeps) s ≡ searchTo a m sweeps (sweptOf a m s)
+  goes-on : (left made : ℕ) (s : Search) → sweptOf a m s .improved ≡ true
+      → searchTo a m (suc left) made s ≡ searchTo a m left (suc made) (sweptOf a m s)
   unfolding searchTo
-  goes-on sweeps s e = go (sweptOf a m s .improved) e
+  goes-on left made s e = go (sweptOf a m s .improved) e
     where
-      go : (t : Bool) → t ≡ true → pick t (searchTo a m sweeps (sweptOf a m s)) (sweptOf a m s) ≡ searchTo a m sweeps (sweptOf a m s)
+      go : (t : Bool) → t ≡ true
+          → pick t (searchTo a m left (suc made) (sweptOf a m s)) (searchedIn (sweptOf a m s .x) (suc made)) ≡ searchTo a m left (suc made) (sweptOf a m s)
       go t e = rw e
 
-  ends : (sweeps : ℕ) (s : Search) → sweptOf a m s .improved ≡ false → searchTo a m (suc sweeps) s ≡ sweptOf a m s
+  ends : (left made : ℕ) (s : Search) → sweptOf a m s .improved ≡ false → searchTo a m (suc left) made s ≡ searchedIn (sweptOf a m s .x) (suc made)
   unfolding searchTo
-  ends sweeps s e = go (sweptOf a m s .improved) e
+  ends left made s e = go (sweptOf a m s .improved) e
     where
-      go : (t : Bool) → t ≡ false → pick t (searchTo a m sweeps (sweptOf a m s)) (sweptOf a m s) ≡ sweptOf a m s
+      go : (t : Bool) → t ≡ false
+          → pick t (searchTo a m left (suc made) (sweptOf a m s)) (searchedIn (sweptOf a m s .x) (suc made)) ≡ searchedIn (sweptOf a m s .x) (suc made)
       go t e = rw e
 
   -- what is left of the sweeps after k of them
-  abbrev pub remaining : ℕ → List Float → List Float → Float → List Float
-  remaining k x ax best = searchTo a m (100 - k) (record { x = x; ax = ax; best = best; improved = false }) .x
+  abbrev pub remaining : ℕ → List Float → List Float → Float → Searched
+  remaining k x ax best = searchTo a m (100 - k) k (record { x = x; ax = ax; best = best; improved = false })
 
   module _ (k : ℕ) (x ax : List Float) (best : Float) (t : Search) (l : k < 100) (r : Swept a m x ax best t) where
     abbrev before : Search
@@ -76,21 +80,39 @@ module _ (a : ℕ → ℕ → Float) (m : ℕ) where
 
     pub search-turn : t .improved ≡ true → remaining k x ax best ≡ remaining (k + 1) (t .x) (t .ax) (t .best)
     search-turn e =
-        ap (λ (q : ℕ). searchTo a m q before .x) fuel
-        ∙ ap (λ (s : Search). s .x) (goes-on (100 - (k + 1)) before (ap (λ (s : Search). s .improved) (sym (r .is)) ∙ e))
-        ∙ ap (λ (s : Search). searchTo a m (100 - (k + 1)) s .x) (sym (r .is)) ∙ afresh (100 - (k + 1)) t
+        ap (λ (q : ℕ). searchTo a m q k before) fuel
+        ∙ goes-on (100 - (k + 1)) k before (ap (λ (s : Search). s .improved) (sym (r .is)) ∙ e)
+        ∙ ap (λ (s : Search). searchTo a m (100 - (k + 1)) (suc k) s) (sym (r .is)) ∙ afresh (100 - (k + 1)) (suc k) t
+        ∙ ap (λ (made : ℕ). searchTo a m (100 - (k + 1)) made (record { x = t .x; ax = t .ax; best = t .best; improved = false })) (sym (add-one k))
 
-    pub search-stop : t .improved ≡ false → remaining k x ax best ≡ t .x
+    pub search-stop : t .improved ≡ false → remaining k x ax best ≡ searchedIn (t .x) (k + 1)
     search-stop e =
-        ap (λ (q : ℕ). searchTo a m q before .x) fuel
-        ∙ ap (λ (s : Search). s .x) (ends (100 - (k + 1)) before (ap (λ (s : Search). s .improved) (sym (r .is)) ∙ e) ∙ sym (r .is))
+        ap (λ (q : ℕ). searchTo a m q k before) fuel
+        ∙ ends (100 - (k + 1)) k before (ap (λ (s : Search). s .improved) (sym (r .is)) ∙ e)
+        ∙ ap (λ (s : Search). searchedIn (s .x) (suc k)) (sym (r .is)) ∙ ap (searchedIn (t .x)) (sym (add-one k))
 
   pub search-begun : (x ax : List Float) (best : Float) → best ≡ maxAbsOf ax → searched a m x ax ≡ remaining 0 x ax best
   unfolding searched
-  search-begun x ax best e = ap (λ (b : Float). searchTo a m 100 (record { x = x; ax = ax; best = b; improved = false }) .x) (sym e)
+  search-begun x ax best e = ap (λ (b : Float). searchTo a m 100 0 (record { x = x; ax = ax; best = b; improved = false })) (sym e)
 
-  pub search-over : (k : ℕ) (x ax : List Float) (best : Float) → 100 ≤ k → remaining k x ax best ≡ x
+  pub search-over : (k : ℕ) (x ax : List Float) (best : Float) → 100 ≤ k → remaining k x ax best ≡ searchedIn x k
   unfolding searchTo
   search-over k x ax best h =
       let z : 100 - k ≡ 0 = omega arith in
-      ap (λ (q : ℕ). searchTo a m q (record { x = x; ax = ax; best = best; improved = false }) .x) z
+      ap (λ (q : ℕ). searchTo a m q k (record { x = x; ax = ax; best = best; improved = false })) z
+
+  -- ---- how many sweeps
+
+  to-most : (left made : ℕ) (s : Search) → searchTo a m left made s .sweeps ≤ left + made
+  unfolding searchTo
+  to-most zero made s = omega arith
+  to-most (suc left) made s = go (sweptOf a m s .improved) (to-most left (suc made) (sweptOf a m s))
+    where
+      go : (t : Bool) → searchTo a m left (suc made) (sweptOf a m s) .sweeps ≤ left + suc made
+          → pick t (searchTo a m left (suc made) (sweptOf a m s)) (searchedIn (sweptOf a m s .x) (suc made)) .sweeps ≤ suc left + made
+      go true h = omega arith
+      go false h = omega arith
+
+  pub sweeps-most : (x ax : List Float) → searched a m x ax .sweeps ≤ 100
+  unfolding searched
+  sweeps-most x ax = to-most 100 0 (record { x = x; ax = ax; best = maxAbsOf ax; improved = false })

@@ -47,14 +47,19 @@ sweepTo a s (suc k) =
 abbrev pub sweptOf : (ℕ → ℕ → Float) → ℕ → Search → Search
 sweptOf a k s = sweepTo a (record { x = s .x; ax = s .ax; best = s .best; improved = false }) k
 
--- at most so many sweeps: one that flips nothing is the last
-unfoldable pub searchTo : (ℕ → ℕ → Float) → ℕ → ℕ → Search → Search
-searchTo a k zero s = s
-searchTo a k (suc sweeps) s =
-    let r : Search = sweptOf a k s in
-    let more : Search = searchTo a k sweeps r in
-    pick (r .improved) more r
+-- what local search finds: the colours, and how many sweeps it made
+pub record Searched : Type 0 where
+  pub x : List Float
+  pub sweeps : ℕ
 
--- the colours after local search
-unfoldable pub searched : (ℕ → ℕ → Float) → ℕ → List Float → List Float → List Float
-searched a k x ax = searchTo a k 100 (record { x = x; ax = ax; best = maxAbsOf ax; improved = false }) .x
+-- at most `left` sweeps after those that were made: one that flips nothing is the last, and counts too
+unfoldable pub searchTo : (ℕ → ℕ → Float) → ℕ → ℕ → ℕ → Search → Searched
+searchTo a k zero made s = record { x = s .x; sweeps = made }
+searchTo a k (suc left) made s =
+    let r : Search = sweptOf a k s in
+    let more : Searched = searchTo a k left (suc made) r in
+    pick (r .improved) more (record { x = r .x; sweeps = suc made })
+
+-- local search from the colours x and A x, in at most 100 sweeps
+unfoldable pub searched : (ℕ → ℕ → Float) → ℕ → List Float → List Float → Searched
+searched a k x ax = searchTo a k 100 0 (record { x = x; ax = ax; best = maxAbsOf ax; improved = false })

@@ -5,7 +5,7 @@ use mathlib.Core.Bool.{false}
 use mathlib.Core.List.{List}
 use lib.Ieee.{Float}
 use Rattle.seq.specs.Choice.{pick}
-use Rattle.search.specs.Search.{Search, improves, flipped, sweptOf}
+use Rattle.search.specs.Search.{Search, improves, flipped, sweptOf, Searched}
 use Rattle.search.specs.declared.Found.{Found}
 
 -- the search that two vectors and an answer hold
@@ -19,3 +19,7 @@ pub record Tried (column : ℕ → Float) (j : ℕ) (s t : Search) : Type 0 wher
 -- k columns were swept, from x and A x and its largest magnitude
 pub record Swept (a : ℕ → ℕ → Float) (k : ℕ) (x ax : List Float) (best : Float) (t : Search) : Type 0 where
   pub is : t ≡ sweptOf a k (record { x = x; ax = ax; best = best; improved = false })
+
+-- what a vector and a count of sweeps hold
+abbrev pub searchedIn : List Float → ℕ → Searched
+searchedIn x sweeps = record { x = x; sweeps = sweeps }

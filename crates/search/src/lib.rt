@@ -8,7 +8,7 @@ ghost use lib.ListN.{length};
 ghost use Rattle.search.specs.Search.{searched};
 ghost use Rattle.entries.specs.Entries.{entryOf};
 ghost use Rattle.entries.specs.ChosenColumns.{Chosen};
-ghost use Rattle.search.specs.Searching.{Tried, Swept, searchOf};
+ghost use Rattle.search.specs.Searching.{Tried, Swept, searchOf, searchedIn};
 
 // The largest magnitude of A x, and whether a sweep has flipped a coordinate.
 pub struct Found {
@@ -74,10 +74,17 @@ fn sweep(
     at
 }
 
-// At most 100 sweeps: one that flips nothing is the last.
-pub fn local_search(ax: &mut [f64], x: &mut [f64], u: &[f64], n: usize, cols: &[u32], scale: &[f64])
+// At most 100 sweeps: one that flips nothing is the last. How many there were, the last one too.
+pub fn local_search(
+    ax: &mut [f64],
+    x: &mut [f64],
+    u: &[f64],
+    n: usize,
+    cols: &[u32],
+    scale: &[f64],
+) -> usize
     requires { ⌜ Chosen (now u) n (now cols) (now scale) (length (now ax)) × (length (now x) ≡ length (now cols)) ⌝ }
-    ensures { λ _. ⌜ now (x .exit) ≡ searched (entryOf (now (u .entry)) n (now (cols .entry)) (now (scale .entry)))
+    ensures { λ r. ⌜ searchedIn (now (x .exit)) r ≡ searched (entryOf (now (u .entry)) n (now (cols .entry)) (now (scale .entry)))
         (length (now (cols .entry))) (now (x .entry)) (now (ax .entry)) ⌝ }
 {
     let mut best = max_abs(&ax[..]);
@@ -85,9 +92,11 @@ pub fn local_search(ax: &mut [f64], x: &mut [f64], u: &[f64], n: usize, cols: &[
     while k < 100 {
         let r = sweep(ax, x, best, u, n, cols, scale);
         best = r.best;
+        let swept = k + 1;
         if !r.improved {
-            break;
+            return swept;
         }
-        k += 1;
+        k = swept;
     }
+    k
 }

@@ -22,7 +22,7 @@ use Rattle.seq.specs.Marks.{isSet}
 use Rattle.direction.specs.Direction.{drawn, directed, tooShort, uphill, turned}
 use Rattle.direction.specs.Step.{reachTo}
 use Rattle.freeze.specs.Freeze.{Walk, freezes, frozenAt, freezeTo}
-use Rattle.walk.specs.Walk.{Stepped, drew, advanced, steppedAlong, stepOf, ended, freeOnes, left, phaseOf}
+use Rattle.walk.specs.Walk.{Stepped, drew, advanced, steppedAlong, stepOf, Course, further, ended, freeOnes, left, courseFrom}
 
 -- ---- a coordinate that freezes is one free one fewer
 
@@ -52,13 +52,29 @@ module _ (z : Float) (a : ℕ → ℕ → Float) (l n : ℕ) where
       go true e h = frozen-sum (freezeTo z a l n w k) k e ∙ h
       go false e h = h
 
-  -- a step keeps them together, and where it goes on more are frozen
+  -- what is frozen stays so
+  freeze-grows : (w : Walk) (k : ℕ) → w .frozen ≤ freezeTo z a l n w k .frozen
+  unfolding freezeTo frozenAt
+  freeze-grows w zero = omega arith
+  freeze-grows w (suc k) = go (freezes (freezeTo z a l n w k) k) (freeze-grows w k)
+    where
+      go : (t : Bool) → w .frozen ≤ freezeTo z a l n w k .frozen
+          → w .frozen ≤ pick t (frozenAt z a l n (freezeTo z a l n w k) k) (freezeTo z a l n w k) .frozen
+      go true h = omega arith
+      go false h = h
+
+  -- a step keeps them together and lets none go, and where it goes on more are frozen
   pub record Sound (w : Walk) (s : Stepped) : Type 0 where
     pub together : coordinates (s .walk) ≡ coordinates w
+    pub still-frozen : w .frozen ≤ s .walk .frozen
     pub more-frozen : s .more ≡ true → w .frozen < s .walk .frozen
 
   none-sound : (w : Walk) → Sound w (record { more = false; walk = drew l w })
-  none-sound w = record { together = refl; more-frozen = λ e. absurd (let q : _≡_ {A = ℕ} 0 1 = ap (λ (b : Bool). pick b 1 0) e in omega arith) }
+  none-sound w = record {
+    together = refl;
+    still-frozen = omega arith;
+    more-frozen = λ e. absurd (let q : _≡_ {A = ℕ} 0 1 = ap (λ (b : Bool). pick b 1 0) e in omega arith);
+  }
 
   pick-sound : (t : Bool) (w : Walk) (s o : Stepped) → Sound w s → Sound w o → Sound w (pick t s o)
   pick-sound true w s o p q = p
@@ -72,7 +88,11 @@ module _ (z : Float) (a : ℕ → ℕ → Float) (l n : ℕ) where
       let t : Float = reachTo (w .x) (turned up g) (w .free) l in
       let v : Walk = freezeTo z a l n (advanced l w t (turned up g) (turned up ag)) l in
       pick-sound (finite t) w (record { more = ltb (w .frozen) (v .frozen); walk = v }) (record { more = false; walk = drew l w })
-      (record { together = freeze-sum (advanced l w t (turned up g) (turned up ag)) l; more-frozen = ltb-true (w .frozen) (v .frozen) })
+      (record {
+        together = freeze-sum (advanced l w t (turned up g) (turned up ag)) l;
+        still-frozen = freeze-grows (advanced l w t (turned up g) (turned up ag)) l;
+        more-frozen = ltb-true (w .frozen) (v .frozen);
+      })
       (none-sound w)
 
   pub step-sound : (w : Walk) → Sound w (stepOf z a l n w)
@@ -84,61 +104,67 @@ module _ (z : Float) (a : ℕ → ℕ → Float) (l n : ℕ) where
 
   -- ---- what is left falls with each step
 
-  abbrev pub next : Stepped → Stepped
-  next s = stepOf z a l n (s .walk)
+  abbrev pub next : Course → Course
+  next c = further z a l n c
 
-  or-false : (s t : Bool) → (not s || t) ≡ false → s ≡ true
+  -- a phase that has not ended goes on
+  pub or-false : (s t : Bool) → (not s || t) ≡ false → s ≡ true
   or-false true t e = refl
   or-false false t e = sym e
 
-  pub falls : (s : Stepped) → ended l s ≡ false → left (next s) < left s
-  falls s e = rw (or-false (s .more) (not (ltb (length (s .walk .basis)) l)) e) (go (next s .more) refl (step-sound (s .walk)))
+  pub falls : (c : Course) → ended l c ≡ false → left (next c) < left c
+  falls c e = rw (or-false (c .more) (not (ltb (length (c .walk .basis)) l)) e) (go (next c .more) refl (step-sound (c .walk)))
     where
-      go : (t : Bool) → next s .more ≡ t → Sound (s .walk) (next s) → pick t (suc (freeOnes (next s .walk .free))) 0 < suc (freeOnes (s .walk .free))
+      go : (t : Bool) → next c .more ≡ t → Sound (c .walk) (stepOf z a l n (c .walk))
+          → pick t (suc (freeOnes (next c .walk .free))) 0 < suc (freeOnes (c .walk .free))
       go true h p = omega (arith, p .together, p .more-frozen h)
       go false h p = omega arith
 
   -- more fuel changes nothing
-  pub fuel : (k : ℕ) (s : Stepped) → left s ≤ k → run (ended l) next k s ≡ run (ended l) next (left s) s
-  fuel k s h = enough (ended l) next left falls k (left s) s h (omega arith)
+  pub fuel : (k : ℕ) (c : Course) → left c ≤ k → run (ended l) next k c ≡ run (ended l) next (left c) c
+  fuel k c h = enough (ended l) next left falls k (left c) c h (omega arith)
 
   -- the last step of a phase says that it ends
-  pub ends : (k : ℕ) (s : Stepped) → left s ≤ k → ended l (run (ended l) next k s) ≡ true
+  pub ends : (k : ℕ) (c : Course) → left c ≤ k → ended l (run (ended l) next k c) ≡ true
   unfolding run
-  ends zero s h = go (ended l s) refl
+  ends zero c h = go (ended l c) refl
     where
-      go : (t : Bool) → ended l s ≡ t → ended l s ≡ true
+      go : (t : Bool) → ended l c ≡ t → ended l c ≡ true
       go true e = e
-      go false e = absurd (omega (arith, falls s e))
-  ends (suc k) s h = go (ended l s) refl (ends k (next s))
+      go false e = absurd (omega (arith, falls c e))
+  ends (suc k) c h = go (ended l c) refl (ends k (next c))
     where
-      go : (t : Bool) → ended l s ≡ t → (left (next s) ≤ k → ended l (run (ended l) next k (next s)) ≡ true) → ended l
-          (pick t s (run (ended l) next k (next s))) ≡ true
+      go : (t : Bool) → ended l c ≡ t → (left (next c) ≤ k → ended l (run (ended l) next k (next c)) ≡ true) → ended l
+          (pick t c (run (ended l) next k (next c))) ≡ true
       go true e r = e
-      go false e r = r (omega (arith, falls s e))
+      go false e r = r (omega (arith, falls c e))
 
   -- ---- the ways of the loop over the steps
 
-  goes-on : (w : Walk) → length (w .basis) < l → ended l (record { more = true; walk = w }) ≡ false
-  goes-on w h = rw (lt-ltb (length (w .basis)) l h)
+  -- a phase that goes on from w, with d directions drawn
+  abbrev pub going : ℕ → Walk → Course
+  going d w = record { more = true; walk = w; directions = d }
 
-  pub phase-full : (w : Walk) → l ≤ length (w .basis) → phaseOf z a l n w ≡ w
-  unfolding phaseOf
-  phase-full w h =
-      ap (λ (s : Stepped). s .walk) (stays (ended l) next left falls (left (record { more = true; walk = w }))
-      (record { more = true; walk = w }) (rw (le-ltb (length (w .basis)) l h)))
+  goes-on : (d : ℕ) (w : Walk) → length (w .basis) < l → ended l (going d w) ≡ false
+  goes-on d w h = rw (lt-ltb (length (w .basis)) l h)
 
-  stepped-path : (s : Stepped) (t : Bool) → s .more ≡ t → s ≡ record { more = t; walk = s .walk }
-  stepped-path s t e = λ i. record { more = e i; walk = s .walk }
+  pub phase-full : (d : ℕ) (w : Walk) → l ≤ length (w .basis) → courseFrom z a l n (going d w) ≡ going d w
+  unfolding courseFrom
+  phase-full d w h = stays (ended l) next left falls (left (going d w)) (going d w) (rw (le-ltb (length (w .basis)) l h))
 
-  pub phase-on : (w : Walk) → length (w .basis) < l → stepOf z a l n w .more ≡ true → phaseOf z a l n w ≡ phaseOf z a l n (stepOf z a l n w .walk)
-  unfolding phaseOf
-  phase-on w h e =
-      ap (λ (s : Stepped). s .walk) (turns (ended l) next left falls (record { more = true; walk = w }) (goes-on w h))
-      ∙ ap (λ (s : Stepped). run (ended l) next (left s) s .walk) (stepped-path (stepOf z a l n w) true e)
+  course-path : (c : Course) (t : Bool) → c .more ≡ t → c ≡ record { more = t; walk = c .walk; directions = c .directions }
+  course-path c t e = λ i. record { more = e i; walk = c .walk; directions = c .directions }
 
-  pub phase-last : (w : Walk) → length (w .basis) < l → stepOf z a l n w .more ≡ false → phaseOf z a l n w ≡ stepOf z a l n w .walk
-  unfolding phaseOf
-  phase-last w h e =
-      ap (λ (s : Stepped). s .walk) (turns (ended l) next left falls (record { more = true; walk = w }) (goes-on w h))
-      ∙ ap (λ (s : Stepped). s .walk) (stays (ended l) next left falls (left (stepOf z a l n w)) (stepOf z a l n w) (rw e))
+  pub phase-on : (d : ℕ) (w : Walk) → length (w .basis) < l → stepOf z a l n w .more ≡ true
+      → courseFrom z a l n (going d w) ≡ courseFrom z a l n (going (suc d) (stepOf z a l n w .walk))
+  unfolding courseFrom
+  phase-on d w h e =
+      turns (ended l) next left falls (going d w) (goes-on d w h)
+      ∙ ap (λ (c : Course). run (ended l) next (left c) c) (course-path (next (going d w)) true e)
+
+  pub phase-last : (d : ℕ) (w : Walk) → length (w .basis) < l → stepOf z a l n w .more ≡ false
+      → courseFrom z a l n (going d w) ≡ next (going d w)
+  unfolding courseFrom
+  phase-last d w h e =
+      turns (ended l) next left falls (going d w) (goes-on d w h)
+      ∙ stays (ended l) next left falls (left (next (going d w))) (next (going d w)) (rw e)

@@ -4,6 +4,7 @@ use mathlib.Core.Path.{_≡_, refl, sym, ap, ap₂, subst, _∙_}
 use mathlib.Core.Bool.{Bool, true, false}
 use mathlib.Core.List.{List}
 use native.Mathlib.Omega.{arith}
+use native.Mathlib.Numerals.{add-one}
 use lib.Dec.{ltb}
 use lib.ListN.{length, getD, drop}
 use lib.Ieee.{Float}
@@ -19,14 +20,15 @@ use Rattle.direction.specs.Direction.{drawn, directed, tooShort, uphill, turned
 use Rattle.direction.specs.Step.{reachTo}
 use Rattle.freeze.specs.Freeze.{Walk, freezeTo}
 use Rattle.begin.specs.Begin.{blockTo, begun}
-use Rattle.walk.specs.Walk.{Stepped, drew, advanced, steppedAlong, stepOf, freeOnes, phaseOf}
+use Rattle.walk.specs.Walk.{Stepped, drew, advanced, steppedAlong, stepOf, Course, freeOnes, courseFrom, courseOf}
 use Rattle.freeze.specs.Held.{axIn, basisIn, held, Roomy}
 use Rattle.begin.specs.Beginning.{Begun}
-use Rattle.walk.specs.Walking.{StepHolds}
+use Rattle.walk.specs.Walking.{StepHolds, CourseHolds}
 use Rattle.walk.specs.declared.Went.{Went}
+use Rattle.walk.specs.declared.Phased.{Phased}
 use Rattle.freeze.proofs.Scratch.{walk-path}
 use Rattle.freeze.proofs.Freezing.{freeze-most, count-most}
-use Rattle.walk.proofs.Ending.{coordinates, step-sound, phase-full, phase-on, phase-last}
+use Rattle.walk.proofs.Ending.{coordinates, step-sound, next, going, phase-full, phase-on, phase-last}
 use Rattle.seq.proofs.Keeping.{count-short}
 
 -- a step keeps the basis within l
@@ -53,7 +55,7 @@ module _ (z : Float) (a : ℕ → ℕ → Float) (l n : ℕ) (w : Walk) (fits : 
 
 -- what holds between two steps
 pub record Going (a : ℕ → ℕ → Float) (l : ℕ) (num₀ : List Float) (blocked₀ : List ℕ) (x₀ : List Float) (free₀ : List ℕ) (g₀ : List Float) (start : Walk)
-    (num : List Float) (blocked : List ℕ) (x : List Float) (free : List ℕ) (g : List Float) (count frozen rng : ℕ) : Type 0 where
+    (num : List Float) (blocked : List ℕ) (x : List Float) (free : List ℕ) (g : List Float) (count frozen rng directions : ℕ) : Type 0 where
   pub roomy : Roomy l num blocked x free count
   pub nums : length num ≡ length num₀
   pub rows : length blocked ≡ length blocked₀
@@ -61,11 +63,13 @@ pub record Going (a : ℕ → ℕ → Float) (l : ℕ) (num₀ : List Float) (bl
   pub frees : length free ≡ length free₀
   pub gs : length g ≡ length g₀
   pub few : frozen + freeOnes free ≤ l
-  pub same : phaseOf plusZero a l (length blocked₀) (held num blocked x free count frozen rng) ≡ phaseOf plusZero a l (length blocked₀) start
+  pub drawn-few : directions ≤ frozen
+  pub same : courseFrom plusZero a l (length blocked₀) (going plusZero a l (length blocked₀) directions (held num blocked x free count frozen rng))
+      ≡ courseOf plusZero a l (length blocked₀) start
 
 module _ (a : ℕ → ℕ → Float) (l : ℕ) (num₀ : List Float) (blocked₀ : List ℕ) (x₀ : List Float) (free₀ : List ℕ) (g₀ : List Float) where
   pub going-start : (count frozen rng : ℕ) → Roomy l num₀ blocked₀ x₀ free₀ count → frozen ≡ 0
-      → Going a l num₀ blocked₀ x₀ free₀ g₀ (held num₀ blocked₀ x₀ free₀ count frozen rng) num₀ blocked₀ x₀ free₀ g₀ count frozen rng
+      → Going a l num₀ blocked₀ x₀ free₀ g₀ (held num₀ blocked₀ x₀ free₀ count frozen rng) num₀ blocked₀ x₀ free₀ g₀ count frozen rng 0
   going-start count frozen rng r e =
       record {
         roomy = r;
@@ -75,11 +79,12 @@ module _ (a : ℕ → ℕ → Float) (l : ℕ) (num₀ : List Float) (blocked₀
         frees = refl;
         gs = refl;
         few = omega (arith, count-short (isSet free₀) (length free₀), r .marks);
+        drawn-few = omega arith;
         same = refl;
       }
 
-  module _ (start : Walk) (num : List Float) (blocked : List ℕ) (x : List Float) (free : List ℕ) (g : List Float) (count frozen rng : ℕ)
-      (i : Going a l num₀ blocked₀ x₀ free₀ g₀ start num blocked x free g count frozen rng) where
+  module _ (start : Walk) (num : List Float) (blocked : List ℕ) (x : List Float) (free : List ℕ) (g : List Float) (count frozen rng directions : ℕ)
+      (i : Going a l num₀ blocked₀ x₀ free₀ g₀ start num blocked x free g count frozen rng directions) where
     abbrev n : ℕ
     n = length blocked₀
 
@@ -90,8 +95,15 @@ module _ (a : ℕ → ℕ → Float) (l : ℕ) (num₀ : List Float) (blocked₀
     counted : length (now-at .basis) ≡ count
     counted = length-vectors (length x) count (drop (length blocked + length blocked + length blocked) num)
 
-    pub going-full : l ≤ count → now-at ≡ phaseOf plusZero a l n start
-    going-full h = sym (phase-full plusZero a l n now-at (omega (arith, counted))) ∙ i .same
+    pub going-full : l ≤ count → (r : Phased) → r .at .count ≡ count → r .at .frozen ≡ frozen → r .at .rng .state ≡ rng → r .directions ≡ directions
+        → CourseHolds num blocked x free r (courseOf plusZero a l n start)
+    going-full h r ec ef er ed =
+        let e : going plusZero a l n directions now-at ≡ courseOf plusZero a l n start =
+        sym (phase-full plusZero a l n directions now-at (omega (arith, counted))) ∙ i .same in
+        record {
+          walk = rw (ec, ef, er) (ap (λ (c : Course). c .walk) e);
+          directions = ed ∙ ap (λ (c : Course). c .directions) e;
+        }
 
     module _ (num' : List Float) (blocked' : List ℕ) (x' : List Float) (free' : List ℕ) (s : Went) (short : count < l)
         (given : StepHolds num' blocked' x' free' s (stepOf plusZero a l (length blocked) now-at)) where
@@ -104,21 +116,29 @@ module _ (a : ℕ → ℕ → Float) (l : ℕ) (num₀ : List Float) (blocked₀
       here : StepHolds num' blocked' x' free' s one
       here = subst (λ (k : ℕ). StepHolds num' blocked' x' free' s (stepOf plusZero a l k now-at)) (i .rows) given
 
-      pub going-last : s .more ≡ false → next-at ≡ phaseOf plusZero a l n start
+      pub going-last : s .more ≡ false → CourseHolds num' blocked' x' free' (record { at = s .at; directions = directions + 1 }) (courseOf plusZero a l n start)
       going-last e =
-          here .walk ∙ sym (phase-last plusZero a l n now-at (omega (arith, counted)) (sym (here .more) ∙ e)) ∙ i .same
+          let last : next plusZero a l n (going plusZero a l n directions now-at) ≡ courseOf plusZero a l n start =
+          sym (phase-last plusZero a l n directions now-at (omega (arith, counted)) (sym (here .more) ∙ e)) ∙ i .same in
+          record {
+            walk = here .walk ∙ ap (λ (c : Course). c .walk) last;
+            directions = add-one directions ∙ ap (λ (c : Course). c .directions) last;
+          }
 
       together : s .at .frozen + freeOnes free' ≡ frozen + freeOnes free
       together = ap (coordinates plusZero a l n) (here .walk) ∙ step-sound plusZero a l n now-at .together
 
-      pub fewer-free : s .more ≡ true → freeOnes free' < freeOnes free
-      fewer-free e =
+      more-frozen : s .more ≡ true → frozen < s .at .frozen
+      more-frozen e =
           let f : s .at .frozen ≡ one .walk .frozen = ap (λ (w : Walk). w .frozen) (here .walk) in
-          omega (arith, together, f, step-sound plusZero a l n now-at .more-frozen (sym (here .more) ∙ e))
+          omega (arith, f, step-sound plusZero a l n now-at .more-frozen (sym (here .more) ∙ e))
+
+      pub fewer-free : s .more ≡ true → freeOnes free' < freeOnes free
+      fewer-free e = omega (arith, together, more-frozen e)
 
       pub going-on : (g' : List Float) → s .more ≡ true
           → length num' ≡ length num → length blocked' ≡ length blocked → length x' ≡ length x → length free' ≡ length free → length g' ≡ length g
-          → Going a l num₀ blocked₀ x₀ free₀ g₀ start num' blocked' x' free' g' (s .at .count) (s .at .frozen) (s .at .rng .state)
+          → Going a l num₀ blocked₀ x₀ free₀ g₀ start num' blocked' x' free' g' (s .at .count) (s .at .frozen) (s .at .rng .state) (directions + 1)
       going-on g' e ln lb lx lf lg =
           let q : Roomy l num blocked x free count = i .roomy in
           record {
@@ -135,7 +155,10 @@ module _ (a : ℕ → ℕ → Float) (l : ℕ) (num₀ : List Float) (blocked₀
             frees = lf ∙ i .frees;
             gs = lg ∙ i .gs;
             few = omega (arith, together, i .few);
-            same = ap (phaseOf plusZero a l n) (here .walk) ∙ sym (phase-on plusZero a l n now-at (omega (arith, counted)) (sym (here .more) ∙ e)) ∙ i .same;
+            drawn-few = omega (arith, i .drawn-few, more-frozen e);
+            same = ap (λ (w : Walk). courseFrom plusZero a l n (going plusZero a l n (directions + 1) w)) (here .walk)
+                ∙ ap (λ (d : ℕ). courseFrom plusZero a l n (going plusZero a l n d (one .walk))) (add-one directions)
+                ∙ sym (phase-on plusZero a l n directions now-at (omega (arith, counted)) (sym (here .more) ∙ e)) ∙ i .same;
           }
 
 -- ---- the whole phase
@@ -171,6 +194,8 @@ module _ (a : ℕ → ℕ → Float) (l : ℕ) (num : List Float) (blocked : Lis
         most = omega (arith, c, block-most plusZero a l first (length first));
       }
 
-  pub phase-is : (w : Walk) (rng : ℕ) → w ≡ phaseOf plusZero a l (length blocked') (held num' blocked' x free' count 0 rng)
-      → w ≡ phaseOf plusZero a l rows-of (begun plusZero a l rows-of x (axIn rows-of num) rng)
-  phase-is w rng e = e ∙ ap₂ (phaseOf plusZero a l) lb (start-held rng)
+  pub phase-is : {num'' : List Float} {blocked'' : List ℕ} {x'' : List Float} {free'' : List ℕ} {r : Phased} (rng : ℕ)
+      → CourseHolds num'' blocked'' x'' free'' r (courseOf plusZero a l (length blocked') (held num' blocked' x free' count 0 rng))
+      → CourseHolds num'' blocked'' x'' free'' r (courseOf plusZero a l rows-of (begun plusZero a l rows-of x (axIn rows-of num) rng))
+  phase-is {num''} {blocked''} {x''} {free''} {r} rng h =
+      subst (CourseHolds num'' blocked'' x'' free'' r) (ap₂ (courseOf plusZero a l) lb (start-held rng)) h

@@ -25,7 +25,7 @@ use Rattle.direction.specs.Direction.{uphill, turned, drawn, directed}
 use Rattle.direction.specs.Step.{reachTo}
 use Rattle.freeze.specs.Freeze.{Walk, axis, blocking, frozenAt, freezeTo}
 use Rattle.begin.specs.Begin.{blockTo, begun}
-use Rattle.walk.specs.Walk.{Stepped, drew, steppedAlong, stepOf, ended, left, phaseOf}
+use Rattle.walk.specs.Walk.{Stepped, drew, steppedAlong, stepOf, further, ended, left, courseFrom, courseOf}
 
 -- equal steps give equal loops
 pub run-cong : {S : Type 0} (done : S → Bool) (f g : S → S) → ((s : S) → f s ≡ g s) → (k : ℕ) (s : S) → run done f k s ≡ run done g k s
@@ -103,11 +103,12 @@ module _ (z : Float) (a b : ℕ → ℕ → Float) (l n : ℕ) (same : (p i : �
   unfolding stepOf
   step-same w = rw (along-same w (directed z (w .basis) (w .free) (drawn (w .rng) l)))
 
-  pub phase-same : (w : Walk) → phaseOf z a l n w ≡ phaseOf z b l n w
-  unfolding phaseOf
+  pub phase-same : (w : Walk) → courseOf z a l n w ≡ courseOf z b l n w
+  unfolding courseFrom
   phase-same w =
-      let s : Stepped = record { more = true; walk = w } in
-      ap (λ (s : Stepped). s .walk) (run-cong (ended l) (λ s. stepOf z a l n (s .walk)) (λ s. stepOf z b l n (s .walk)) (λ s. step-same (s .walk)) (left s) s)
+      run-cong (ended l) (further z a l n) (further z b l n)
+      (λ c. ap (λ (s : Stepped). record { more = s .more; walk = s .walk; directions = suc (c .directions) }) (step-same (c .walk)))
+      (left (record { more = true; walk = w; directions = 0 })) (record { more = true; walk = w; directions = 0 })
 
   -- of no rows none is first
   none-first : (ax : List Float) → n ≡ 0 → length (firstRows z b l n ax) ≡ 0

@@ -27,7 +27,7 @@ use Rattle.direction.specs.Direction.{degenerate, afterDraws, drawn, zeroedAt, 
 use Rattle.freeze.specs.Freeze.{freezeLimit, Walk, axis, freezes, blocking, frozenAt, freezeTo}
 use Rattle.direction.specs.Step.{reachAt, reachTo, movedAt, moved, alongAt, along}
 use Rattle.begin.specs.Begin.{blockTo, marksTo, begun}
-use Rattle.walk.specs.Walk.{Stepped, drew, advanced, steppedAlong, stepOf, ended, freeOnes, phaseOf}
+use Rattle.walk.specs.Walk.{Stepped, drew, advanced, steppedAlong, stepOf, Course, further, ended, freeOnes, courseFrom, courseOf}
 use Rattle.walk.proofs.Pairs.{Each, none, more, each-length, each-at, each-set, each-join, each-tab, each-tabs, each-same, pick-both, run-both}
 use Rattle.walk.proofs.Divisors.{divisor}
 
@@ -99,6 +99,11 @@ pub record AlikeWalk (w w' : Walk) : Type 0 where
 pub record AlikeStepped (s s' : Stepped) : Type 0 where
   pub more : s .more ≡ s' .more
   pub walk : AlikeWalk (s .walk) (s' .walk)
+
+pub record AlikeCourse (c c' : Course) : Type 0 where
+  pub more : c .more ≡ c' .more
+  pub walk : AlikeWalk (c .walk) (c' .walk)
+  pub directions : c .directions ≡ c' .directions
 
 -- ---- what adds nothing up
 
@@ -330,12 +335,17 @@ module _ (z : Float) (start : Alike z plusZero) where
         (directed plusZero (w' .basis) (w' .free) (drawn (w' .rng) l)) = directed-alike (r .basis) (r .free) d in
         pick-both AlikeStepped (short-same d g) (λ _. record { more = refl; walk = drew-alike l r }) (along-step r g)
 
-    ended-same : (s s' : Stepped) → AlikeStepped s s' → ended l s ≡ ended l s'
-    ended-same s s' r = rw (r .more, each-length (r .walk .basis))
+    ended-same : (c c' : Course) → AlikeCourse c c' → ended l c ≡ ended l c'
+    ended-same c c' r = rw (r .more, each-length (r .walk .basis))
 
-    pub phase-alike : {w w' : Walk} → AlikeWalk w w' → AlikeWalk (phaseOf z a l n w) (phaseOf plusZero a l n w')
-    unfolding phaseOf
-    phase-alike {w} {w'} r =
-        run-both AlikeStepped (ended l) (λ s. stepOf z a l n (s .walk)) (λ s. stepOf plusZero a l n (s .walk)) ended-same (λ s s' q. step-alike (q .walk))
-        (ap (λ (free : List ℕ). suc (freeOnes free)) (r .free)) (record { more = true; walk = w })
-        (record { more = true; walk = w' }) (record { more = refl; walk = r }) .walk
+    further-alike : (c c' : Course) → AlikeCourse c c' → AlikeCourse (further z a l n c) (further plusZero a l n c')
+    further-alike c c' r =
+        let s : AlikeStepped (stepOf z a l n (c .walk)) (stepOf plusZero a l n (c' .walk)) = step-alike (r .walk) in
+        record { more = s .more; walk = s .walk; directions = ap suc (r .directions) }
+
+    pub course-alike : {w w' : Walk} → AlikeWalk w w' → AlikeCourse (courseOf z a l n w) (courseOf plusZero a l n w')
+    unfolding courseFrom
+    course-alike {w} {w'} r =
+        run-both AlikeCourse (ended l) (further z a l n) (further plusZero a l n) ended-same further-alike
+        (ap (λ (free : List ℕ). suc (freeOnes free)) (r .free)) (record { more = true; walk = w; directions = 0 })
+        (record { more = true; walk = w'; directions = 0 }) (record { more = refl; walk = r; directions = refl })

@@ -60,20 +60,38 @@ stepOf z a l n w =
     let g : List Float = directed z (w .basis) (w .free) d in
     pick (tooShort z d g) (record { more = false; walk = drew l w }) (steppedAlong z a l n w g)
 
+-- how a phase goes: whether it goes on, where its walk stands, and how many directions it has drawn
+pub record Course : Type 0 where
+  pub more : Bool
+  pub walk : Walk
+  pub directions : ℕ
+
+-- one step more: its direction counts however the step ends
+abbrev pub further : Float → (ℕ → ℕ → Float) → ℕ → ℕ → Course → Course
+further z a l n c =
+    let s : Stepped = stepOf z a l n (c .walk) in
+    record { more = s .more; walk = s .walk; directions = suc (c .directions) }
+
 -- the phase ends: the last step said so, or the basis is full
-abbrev pub ended : ℕ → Stepped → Bool
-ended l s = not (s .more) || not (ltb (length (s .walk .basis)) l)
+abbrev pub ended : ℕ → Course → Bool
+ended l c = not (c .more) || not (ltb (length (c .walk .basis)) l)
 
 -- how many coordinates of the phase are free: what a step that goes on makes smaller
 abbrev pub freeOnes : List ℕ → ℕ
 freeOnes free = count (isSet free) (length free)
 
 -- how many steps can still be made
-abbrev pub left : Stepped → ℕ
-left s = pick (s .more) (suc (freeOnes (s .walk .free))) 0
+abbrev pub left : Course → ℕ
+left c = pick (c .more) (suc (freeOnes (c .walk .free))) 0
+
+-- how a phase goes on from where it stands
+unfoldable pub courseFrom : Float → (ℕ → ℕ → Float) → ℕ → ℕ → Course → Course
+courseFrom z a l n c = run (ended l) (further z a l n) (left c) c
 
 -- a whole phase
-unfoldable pub phaseOf : Float → (ℕ → ℕ → Float) → ℕ → ℕ → Walk → Walk
-phaseOf z a l n w =
-    let s : Stepped = record { more = true; walk = w } in
-    run (ended l) (λ s. stepOf z a l n (s .walk)) (left s) s .walk
+abbrev pub courseOf : Float → (ℕ → ℕ → Float) → ℕ → ℕ → Walk → Course
+courseOf z a l n w = courseFrom z a l n (record { more = true; walk = w; directions = 0 })
+
+-- where it leads
+abbrev pub phaseOf : Float → (ℕ → ℕ → Float) → ℕ → ℕ → Walk → Walk
+phaseOf z a l n w = courseOf z a l n w .walk

@@ -12,11 +12,11 @@ ghost use Prim.Native.Nat.{_≤_};
 ghost use lib.ListN.{length};
 ghost use Rattle.seq.specs.Sums.{plusZero};
 ghost use Rattle.begin.specs.Begin.{begun};
-ghost use Rattle.walk.specs.Walk.{stepOf, phaseOf};
+ghost use Rattle.walk.specs.Walk.{stepOf, courseOf};
 ghost use Rattle.entries.specs.Entries.{entryOf};
 ghost use Rattle.entries.specs.ChosenColumns.{Chosen};
 ghost use Rattle.freeze.specs.Held.{axIn, held, Roomy};
-ghost use Rattle.walk.specs.Walking.{StepHolds};
+ghost use Rattle.walk.specs.Walking.{StepHolds, CourseHolds};
 
 // Where a walk stands: how many vectors the basis has, how many coordinates froze in this phase, and the generator.
 pub struct Stand {
@@ -29,6 +29,12 @@ pub struct Stand {
 pub struct Went {
     pub more: bool,
     pub at: Stand,
+}
+
+// Where the walk stands after a phase, and how many directions the phase drew.
+pub struct Phased {
+    pub at: Stand,
+    pub directions: usize,
 }
 
 // One step. g is room for a direction and then for a row.
@@ -105,25 +111,31 @@ fn steps(
     scale: &[f64],
     from: Stand,
     g: &mut [f64],
-) -> Stand
+) -> Phased
     requires { ⌜ Chosen (now u) n (now cols) (now scale) (length (now blocked)) × Roomy (length (now cols)) (now num)
         (now blocked) (now x) (now free) (from .count) × (length (now g) ≡ length (now cols)) × (from .frozen ≡ 0) ⌝ }
-    ensures { λ r. ⌜ held (now (num .exit)) (now (blocked .exit)) (now (x .exit)) (now (free .exit)) (r .count)
-        (r .frozen) (r .rng .state) ≡ phaseOf plusZero
-        (entryOf (now (u .entry)) n (now (cols .entry)) (now (scale .entry))) (length (now (cols .entry)))
-        (length (now (blocked .entry))) (held (now (num .entry)) (now (blocked .entry)) (now (x .entry))
-        (now (free .entry)) (from .count) (from .frozen) (from .rng .state)) ⌝ }
+    ensures { λ r. ⌜ CourseHolds (now (num .exit)) (now (blocked .exit)) (now (x .exit)) (now (free .exit)) r
+        (courseOf plusZero (entryOf (now (u .entry)) n (now (cols .entry)) (now (scale .entry)))
+        (length (now (cols .entry))) (length (now (blocked .entry)))
+        (held (now (num .entry)) (now (blocked .entry)) (now (x .entry)) (now (free .entry)) (from .count)
+        (from .frozen) (from .rng .state))) ⌝ }
 {
     let mut at = from;
+    let mut directions = 0usize;
     while at.count < cols.len() {
         let s = step(num, blocked, x, free, u, n, cols, scale, at, &mut g[..]);
         let next = s.at;
         at = next;
+        let drawn = directions + 1;
         if !s.more {
-            break;
+            return Phased {
+                at,
+                directions: drawn,
+            };
         }
+        directions = drawn;
     }
-    at
+    Phased { at, directions }
 }
 
 // A whole phase, from x and A x; x and free are over its columns, and g is room for as many.
@@ -138,16 +150,15 @@ pub fn phase(
     scale: &[f64],
     rng: SplitMix64,
     g: &mut [f64],
-) -> Stand
+) -> Phased
     requires { ⌜ Chosen (now u) n (now cols) (now scale) (length (now blocked)) × Roomy (length (now cols)) (now num)
         (now blocked) (now x) (now free) 0 × (length (now g) ≡ length (now cols)) ⌝ }
-    ensures { λ r. ⌜ held (now (num .exit)) (now (blocked .exit)) (now (x .exit)) (now (free .exit)) (r .count)
-        (r .frozen) (r .rng .state) ≡ phaseOf plusZero
-        (entryOf (now (u .entry)) n (now (cols .entry)) (now (scale .entry))) (length (now (cols .entry)))
-        (length (now (blocked .entry))) (begun plusZero
-        (entryOf (now (u .entry)) n (now (cols .entry)) (now (scale .entry))) (length (now (cols .entry)))
-        (length (now (blocked .entry))) (now (x .entry)) (axIn (length (now (blocked .entry))) (now (num .entry)))
-        (rng .state)) ⌝ }
+    ensures { λ r. ⌜ CourseHolds (now (num .exit)) (now (blocked .exit)) (now (x .exit)) (now (free .exit)) r
+        (courseOf plusZero (entryOf (now (u .entry)) n (now (cols .entry)) (now (scale .entry)))
+        (length (now (cols .entry))) (length (now (blocked .entry)))
+        (begun plusZero (entryOf (now (u .entry)) n (now (cols .entry)) (now (scale .entry)))
+        (length (now (cols .entry))) (length (now (blocked .entry))) (now (x .entry))
+        (axIn (length (now (blocked .entry))) (now (num .entry))) (rng .state))) ⌝ }
 {
     fill_words(&mut free[..], 1);
     let count = begin(num, blocked, u, n, cols, scale, &mut g[..]);

@@ -3,7 +3,7 @@ use Rattle.entries.specs.Entries.{entryOf}
 use Rattle.coloring.proofs.Walks.{colors}
 use lib.Seq.{length-take-le}
 use borrow.Author.Needs.{needs}
-use mathlib.Core.Path.{_≡_, sym, _∙_}
+use mathlib.Core.Path.{_≡_, refl, sym, _∙_}
 use native.Mathlib.Omega.{arith}
 use lib.ListN.{length, take}
 use Rattle.coloring.proofs.coloring.Statement.{statement}
@@ -47,14 +47,14 @@ same-length-3 c = search needs
 
 returns : tie.Need-returns
 returns c =
-    let at-search-anew = c .before .before .before .before in
+    let at-search-anew = c .before .before .before .before .before in
     let at-walk-anew = at-search-anew .before .before .before .before .before .before .before .before .before .before in
     let at-start = at-walk-anew .before .before .before .before .before .before .before .before .before .before .before in
     let a = at-start .args in
     let m : length (take (length (a .blocked .now)) (at-walk-anew .walk-anew .last .0)) ≡ length (a .blocked .now) =
     length-take-le _ _ (omega (arith, at-walk-anew .walk-anew .kept .0)) in
     colors (entryOf (a .u .now) (a .n) (a .cols .now) (a .scale .now)) (length (a .cols .now)) (length (a .blocked .now))
-    (a .rng .state) _ _ _ _ _ _ (at-walk-anew .walk-anew .ensures) m (at-search-anew .search-anew .ensures)
+    (a .rng .state) _ _ _ _ _ _ _ (at-walk-anew .walk-anew .ensures) refl m (at-search-anew .search-anew .ensures)
 
 pub coloring-spec : {M : Type 1} → statement M
 coloring-spec =

@@ -23,8 +23,8 @@ clear-requires-2 c κs = search needs
 fill-words-requires : tie.Need-fill-words-requires
 fill-words-requires c κs = search needs
 
-walk-requires : tie.Need-walk-requires
-walk-requires c κs =
+walk-to-end-requires : tie.Need-walk-to-end-requires
+walk-to-end-requires c κs =
     let at-fill-words = c .before .before .before .before .before .before in
     let at-clear2 = at-fill-words .before .before .before .before in
     let at-clear = at-clear2 .before .before .before .before in
@@ -63,7 +63,7 @@ walk-anew-spec =
     slice-aggregate-clear
     clear-requires-2
     fill-words-requires
-    walk-requires
+    walk-to-end-requires
     same-length
     same-length-2
     same-length-3

@@ -3,9 +3,10 @@ use Rattle.discrepancy.proofs.Fronts.{front-few, filled-back, filled-lo
 use lib.Seq.{length-take-le}
 use Rattle.discrepancy.proofs.OwnColumns.{own-asked, own-left}
 use Rattle.ieee.specs.Constants.{one}
+use Rattle.coloring.specs.Fresh.{ColoredAs}
 use borrow.Author.Needs.{needs}
 use Prim.Native.Nat.{ℕ}
-use mathlib.Core.Path.{sym, _∙_}
+use mathlib.Core.Path.{sym, subst}
 use mathlib.Core.List.{List}
 use lib.ListN.{take}
 use Rattle.discrepancy.proofs.color_all.Statement.{statement}
@@ -93,13 +94,14 @@ returns c =
     let at-shared-slice-known = at-count-up .before .before .before .before .before in
     let at-start = at-shared-slice-known .before in
     let indices : List ℕ = take (at-start .args .n) (at-start .args .indices .now) in
-    at-coloring .coloring .ensures .0
-    ∙ own-left (at-start .args .matrix .now) (at-start .args .m) (at-start .args .n) _ _ indices
+    subst (ColoredAs _ _)
+    (own-left (at-start .args .matrix .now) (at-start .args .m) (at-start .args .n) _ _ indices
     (at-start .pre .0)
     (filled-back (λ i. i) _ _ _ (at-start .pre .1) (at-count-up .count-up .ensures))
     (filled-back (λ i. one) _ _ _ (at-start .pre .1) (at-fill .fill .ensures))
     (length-take-le (at-start .args .n) (at-start .args .indices .now) (at-start .pre .5))
-    (at-shared-slice-known .shared-slice-known .given) _ _ (at-new .new .ensures)
+    (at-shared-slice-known .shared-slice-known .given) _ _ (at-new .new .ensures))
+    (at-coloring .coloring .ensures)
 
 pub color-all-spec : {M : Type 1} → statement M
 color-all-spec =

@@ -3,7 +3,7 @@
 use lib.Seq.{length-take-le}
 use Rattle.discrepancy.proofs.Accepted.{accepted}
 use Rattle.discrepancy.proofs.Fronts.{front-back, back-long}
-use Rattle.discrepancy.proofs.Outcomes.{refused, coloured}
+use Rattle.discrepancy.proofs.Outcomes.{refused, colours-at, coloured}
 use borrow.Author.Needs.{needs}
 use mathlib.Core.Path.{sym, _∙_}
 use mathlib.Core.List.{List}
@@ -84,8 +84,8 @@ returns-2 c =
     let a = accepted _ _ _ _ _ _ e in
     let x : List Float = at-color-all .color-all .last .1 .1 .1 .1 .0 in
     let kept = at-color-all .color-all .kept .1 .1 .1 .1 in
-    coloured _ _ _ _ _ _ _ _ _ _ _ e
-    (front-back _ x _ (a .columns) (kept .0) ∙ at-color-all .color-all .ensures)
+    coloured _ _ _ _ _ _ _ _ _ _ _ (at-color-all .color-all .result) e
+    (colours-at (front-back _ x _ (a .columns) (kept .0)) (at-color-all .color-all .ensures))
     (length-take-le _ _ (back-long _ x _ (a .columns) (kept .0)))
     (at-write-colours .write-colours .ensures)
     (at-clear .clear .ensures ∙ rw (kept .1 .0))

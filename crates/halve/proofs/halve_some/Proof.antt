@@ -34,7 +34,10 @@ sigma-of-requires : tie.Need-sigma-of-requires
 sigma-of-requires c κs = search needs
 
 double-or-zero-requires : tie.Need-double-or-zero-requires
-double-or-zero-requires c κs = search needs
+double-or-zero-requires c κs =
+    let at-coloring = c .before .before .before .before .before .before .before .before .before .before in
+    let at-start = at-coloring .before .before .before .before .before .before .before .before .before .before .before .before .before .before .before .before .before in
+    (at-coloring .coloring .kept .1 .1 .1 .1 .0 ∙ at-start .pre .colours, at-start .pre .inside)
 
 same-length : tie.Need-same-length
 same-length c = search needs
@@ -53,7 +56,7 @@ same-length-5 c = search needs
 
 returns : tie.Need-returns
 returns c =
-    let c2 = c .before .before in
+    let c2 = c .before .before .before in
     let c5 = c2 .before .before .before in
     let c13 = c5 .before .before .before .before .before .before .before .before in
     let c20 = c13 .before .before .before .before .before .before .before in
@@ -62,7 +65,7 @@ returns c =
     let v = c30 .pre in
     let d = c13 .coloring in
     halved-by (a .matrix .now) (a .n) (a .w .now) (a .omega) (a .some .now) (v .whole) (v .inside .below) (a .rng .state) _ _ _ _
-    _ _ (c20 .scales-into .ensures) (v .rows) (d .ensures .0) (d .ensures .1) (c5 .sigma-of .ensures) (c2 .double-or-zero .ensures)
+    _ _ (c20 .scales-into .ensures) (v .rows) (d .ensures .colours) (d .ensures .draws) (c5 .sigma-of .ensures) (c2 .double-or-zero .ensures)
 
 pub halve-some-spec : {M : Type 1} → statement M
 halve-some-spec =

@@ -6,7 +6,6 @@ use Rattle.entries.specs.Entries.{entryOf}
 use Rattle.phasing.proofs.Inside.{places-below, places-few, phase-goes, phase-rounds}
 use borrow.Author.Needs.{needs}
 use mathlib.Core.Path.{sym, ap, _∙_}
-use mathlib.Core.Logic.{⊎-elim}
 use native.Mathlib.Omega.{arith}
 use lib.ListN.{length}
 use Rattle.phasing.proofs.next_phase.Statement.{statement}
@@ -131,21 +130,17 @@ same-length-2 : tie.Need-same-length-2
 same-length-2 c = search needs
 
 same-length-3 : tie.Need-same-length-3
-same-length-3 c =
-    let start = c .before .before .before .before .before .before .before .before .before .before .before .before .before .before
-    .before .before .before .before .before .before .before in
-    ⊎-elim (λ w. ap length (w .10) ∙ w .3 .kept .0 ∙ start .phase-on .kept .1 .1 .0)
-    (λ w. ap length (w .1) ∙ start .phase-on .kept .1 .1 .0) (c .before .if1 .came)
+same-length-3 c = search needs
 
 same-length-4 : tie.Need-same-length-4
-same-length-4 c =
-    let start = c .before .before .before .before .before .before .before .before .before .before .before .before .before .before
-    .before .before .before .before .before .before .before in
-    ⊎-elim (λ w. ap length (w .11) ∙ w .7 .kept .0 ∙ start .phase-on .kept .1 .1 .1 .0)
-    (λ w. ap length (w .2) ∙ start .phase-on .kept .1 .1 .1 .0) (c .before .if1 .came)
+same-length-4 c = search needs
 
 same-length-5 : tie.Need-same-length-5
-same-length-5 c = search needs
+same-length-5 c =
+    let at-free-places = c .before .before .before .before .before .before .before .before .before .before .before .before .before
+    .before .before .before .before .before .before .before .before .before .before .before .before .before .before .before
+    .before .before .before .before .before .before .before .before .before .before .before .before .before .before in
+    at-free-places .free-places .kept .0
 
 same-length-6 : tie.Need-same-length-6
 same-length-6 c = search needs
@@ -163,23 +158,67 @@ same-length-10 : tie.Need-same-length-10
 same-length-10 c = search needs
 
 returns : tie.Need-returns
-returns c =
-    let at-phase-on = c .before .before .before .before .before .before .before .before .before .before .before .before .before
+returns c = λ d.
+    let at-round-free = c .before .before .before .before .before .before in
+    let at-if1 = at-round-free .before .before .before in
+    let at-phase-on = at-if1 .before .before .before .before .before .before .before .before .before .before .before .before
     .before .before .before .before .before .before .before .before in
     let at-free-places = at-phase-on .before .before .before .before .before .before .before .before .before .before .before .before .before in
     let start = at-free-places .before .before .before .before .before .before .before .before .before .before .before .before
     .before .before .before .before in
     let a = start .args in
-    let m = entryOf (a .u .now) (a .n) (a .cols .now) (a .scale .now) in
-    let k = length (a .cols .now) in
-    let is = at-free-places .free-places .ensures .front ∙ ap (keep (isSet (a .free .now))) (start .pre .0 .1 .marks) in
-    ⊎-elim
-    (λ w. phase-rounds m k (length (a .blocked .now)) (a .rng .state) (a .num .now) (a .x .now) (a .free .now) _ _ _ _ _ _ is
-    (at-phase-on .phase-on .ensures) (c .before .if1 .x) (c .before .if1 .free) (w .0 .taken) (w .10 ∙ w .3 .ensures)
-    (w .11 ∙ w .7 .ensures))
-    (λ w. rw (w .1, w .2) (phase-goes m k (length (a .blocked .now)) (a .rng .state) (a .num .now) (a .x .now) (a .free .now) _ _
-    _ _ _ _ is (at-phase-on .phase-on .ensures) (w .0 .left)))
-    (c .before .if1 .came)
+    phase-rounds (entryOf (a .u .now) (a .n) (a .cols .now) (a .scale .now)) (length (a .cols .now)) (length (a .blocked .now))
+    (a .rng .state) (a .num .now) (a .x .now) (a .free .now) _ _ _ _ _
+    (at-free-places .free-places .ensures .front ∙ ap (keep (isSet (a .free .now))) (start .pre .0 .1 .marks))
+    (at-phase-on .phase-on .ensures) d _ _ (at-if1 .if1 .taken) (at-round-free .round-free .ensures)
+    (c .before .before .fill-words .ensures)
+
+same-length-11 : tie.Need-same-length-11
+same-length-11 c = search needs
+
+same-length-12 : tie.Need-same-length-12
+same-length-12 c = search needs
+
+same-length-13 : tie.Need-same-length-13
+same-length-13 c = search needs
+
+same-length-14 : tie.Need-same-length-14
+same-length-14 c = search needs
+
+same-length-15 : tie.Need-same-length-15
+same-length-15 c =
+    let at-free-places = c .before .before .before .before .before .before .before .before .before .before .before .before .before
+    .before .before .before .before .before .before .before .before .before .before .before .before .before .before .before
+    .before .before .before .before .before in
+    at-free-places .free-places .kept .0
+
+same-length-16 : tie.Need-same-length-16
+same-length-16 c = search needs
+
+same-length-17 : tie.Need-same-length-17
+same-length-17 c = search needs
+
+same-length-18 : tie.Need-same-length-18
+same-length-18 c = search needs
+
+same-length-19 : tie.Need-same-length-19
+same-length-19 c = search needs
+
+same-length-20 : tie.Need-same-length-20
+same-length-20 c = search needs
+
+returns-2 : tie.Need-returns-2
+returns-2 c = λ d.
+    let at-phase-on = c .before .before .before .before .before .before .before .before .before .before .before .before .before
+    .before .before .before .before .before .before .before in
+    let at-free-places = at-phase-on .before .before .before .before .before .before .before .before .before .before .before .before .before in
+    let start = at-free-places .before .before .before .before .before .before .before .before .before .before .before .before
+    .before .before .before .before in
+    let a = start .args in
+    phase-goes (entryOf (a .u .now) (a .n) (a .cols .now) (a .scale .now)) (length (a .cols .now)) (length (a .blocked .now))
+    (a .rng .state) (a .num .now) (a .x .now) (a .free .now) _ _ _ _ _
+    (at-free-places .free-places .ensures .front ∙ ap (keep (isSet (a .free .now))) (start .pre .0 .1 .marks))
+    (at-phase-on .phase-on .ensures) d (c .if1 .left)
 
 pub next-phase-spec : {M : Type 1} → statement M
 next-phase-spec =
@@ -211,4 +250,15 @@ next-phase-spec =
     same-length-8
     same-length-9
     same-length-10
-    returns)
+    returns
+    same-length-11
+    same-length-12
+    same-length-13
+    same-length-14
+    same-length-15
+    same-length-16
+    same-length-17
+    same-length-18
+    same-length-19
+    same-length-20
+    returns-2)

@@ -70,12 +70,12 @@ same-length-4 : tie.Need-same-length-4
 same-length-4 c = search needs
 
 same-length-5 : tie.Need-same-length-5
-same-length-5 c = c .before .before .before .before .before .before .before .before .before .before .before .before .before
+same-length-5 c = c .before .before .before .before .before .before .before .before .before .before .before .before
     .before .before .before .before .before .before .before .before .before .before .before .before .before .before .before
     .before .before .before .before .before .before .before .before .before .before .before .before .choose-words .kept .0
 
 same-length-6 : tie.Need-same-length-6
-same-length-6 c = c .before .before .before .before .before .before .before .before .before .before .before .before .before
+same-length-6 c = c .before .before .before .before .before .before .before .before .before .before .before .before
     .before .before .before .before .before .before .before .before .before .before .before .before .before .before .before
     .before .before .before .before .before .before .before .before .choose .kept .0
 
@@ -90,7 +90,7 @@ same-length-9 c = search needs
 
 returns : tie.Need-returns
 returns c =
-    let at-put-back-words = c .before .before .before in
+    let at-put-back-words = c .before .before in
     let at-put-back = at-put-back-words .before .before .before .before .before in
     let at-phase = at-put-back .before .before .before .before .before .before .before .before .before .before .before .before .before in
     let at-choose2 = at-phase .before .before .before .before .before .before .before .before .before .before in
@@ -100,8 +100,7 @@ returns c =
     phased-at (a .u .now) (a .n) (a .cols .now) (a .scale .now) (a .places .now) (length (a .blocked .now)) (a .rng .state)
     (a .num .now) (a .x .now) (a .free .now)
     _ _ _ (at-choose-words .choose-words .ensures) (at-choose .choose .ensures) (at-choose2 .choose2 .ensures)
-    _ _ _ _ _ _ (at-phase .phase .ensures) refl
-    (ap (λ (r : ℕ). axIn r (at-phase .phase .last .0)) (sym (at-phase .phase .kept .1 .0))) refl
+    (at-phase .phase .ensures) (at-phase .phase .kept .1 .0)
     (at-put-back .put-back .ensures) (at-put-back-words .put-back-words .ensures)
 
 pub phase-on-spec : {M : Type 1} → statement M

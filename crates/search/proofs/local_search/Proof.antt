@@ -31,8 +31,25 @@ sweep-requires c κs =
     let start = c .before .before .before .before .before .before .before .before .before .before .before in
     (rw (c .before .before .before .loop .inv .1) (start .pre .0), c .before .before .before .loop .inv .2 ∙ start .pre .1)
 
-add-k : tie.Need-add-k Inv-loop μ-loop
-add-k c = search needs
+add-swept : tie.Need-add-swept Inv-loop μ-loop
+add-swept c = search needs
+
+same-length : tie.Need-same-length Inv-loop μ-loop
+same-length c = search needs
+
+same-length-2 : tie.Need-same-length-2 Inv-loop μ-loop
+same-length-2 c = search needs
+
+returns : tie.Need-returns Inv-loop μ-loop
+returns c =
+    let at-sweep = c .before .before .before .before .before .before in
+    let at-loop-test = at-sweep .before .before .before in
+    let at-loop = at-loop-test .before in
+    let at-start = at-loop .before .before .before .before .before .before .before .before in
+    let a = at-start .args in
+    let l = at-loop .loop in
+    sym (l .inv .3 ∙ search-stop (entryOf (a .u .now) (a .n) (a .cols .now) (a .scale .now)) (length (a .cols .now)) (l .k) (l .x)
+    (l .ax) (l .best) _ (at-loop-test .loop-test .taken) (at-sweep .sweep .ensures) (not-true _ (c .if1 .taken)))
 
 loop-less : tie.Need-loop-less Inv-loop μ-loop
 loop-less c = search needs
@@ -52,19 +69,6 @@ loop-again c =
           (l .ax) (l .best) _ (at-loop-test .loop-test .taken) (at-sweep .sweep .ensures) (not-false _ (c .if1 .left)),
     )
 
-same-length : tie.Need-same-length Inv-loop μ-loop
-same-length c = search needs
-
-same-length-2 : tie.Need-same-length-2 Inv-loop μ-loop
-same-length-2 c = search needs
-
-returns : tie.Need-returns Inv-loop μ-loop
-returns c =
-    let a = c .before .before .before .before .before .before .before .before .before .args in
-    let l = c .before .loop in
-    sym (l .inv .3 ∙ search-over (entryOf (a .u .now) (a .n) (a .cols .now) (a .scale .now)) (length (a .cols .now)) (l .k) (l .x)
-    (l .ax) (l .best) (omega arith))
-
 same-length-3 : tie.Need-same-length-3 Inv-loop μ-loop
 same-length-3 c = search needs
 
@@ -73,14 +77,10 @@ same-length-4 c = search needs
 
 returns-2 : tie.Need-returns-2 Inv-loop μ-loop
 returns-2 c =
-    let at-sweep = c .before .before .before .before .before .before in
-    let at-loop-test = at-sweep .before .before .before in
-    let at-loop = at-loop-test .before in
-    let at-start = at-loop .before .before .before .before .before .before .before .before in
-    let a = at-start .args in
-    let l = at-loop .loop in
-    sym (l .inv .3 ∙ search-stop (entryOf (a .u .now) (a .n) (a .cols .now) (a .scale .now)) (length (a .cols .now)) (l .k) (l .x)
-    (l .ax) (l .best) _ (at-loop-test .loop-test .taken) (at-sweep .sweep .ensures) (not-true _ (c .if1 .taken)))
+    let a = c .before .before .before .before .before .before .before .before .before .args in
+    let l = c .before .loop in
+    sym (l .inv .3 ∙ search-over (entryOf (a .u .now) (a .n) (a .cols .now) (a .scale .now)) (length (a .cols .now)) (l .k) (l .x)
+    (l .ax) (l .best) (omega arith))
 
 pub local-search-spec : {M : Type 1} → statement M
 local-search-spec =
@@ -91,12 +91,12 @@ local-search-spec =
     max-abs-requires
     loop-holds
     sweep-requires
-    add-k
-    loop-less
-    loop-again
+    add-swept
     same-length
     same-length-2
     returns
+    loop-less
+    loop-again
     same-length-3
     same-length-4
     returns-2)

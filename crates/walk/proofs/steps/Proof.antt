@@ -5,20 +5,20 @@ use Rattle.freeze.specs.Held.{held}
 use Rattle.walk.specs.Walk.{freeOnes}
 use Rattle.walk.proofs.Phases.{Going, going-start, going-full, going-last, fewer-free, going-on}
 use borrow.Author.Needs.{needs}
-use mathlib.Core.Path.{_∙_}
+use mathlib.Core.Path.{refl, _∙_}
 use native.Mathlib.Omega.{arith}
 use lib.ListN.{length}
 use Rattle.walk.proofs.steps.Statement.{statement}
 use Rattle.walk.proofs.steps.Tie as tie
 
 abbrev Inv-loop : tie.InvT-loop
-Inv-loop num₀ blocked₀ x₀ free₀ u n cols scale g₀ at₀ num blocked x free g at =
+Inv-loop num₀ blocked₀ x₀ free₀ u n cols scale g₀ at₀ directions₀ num blocked x free g at directions =
     Going (entryOf u n cols scale) (length cols) num₀ blocked₀ x₀ free₀ g₀
     (held num₀ blocked₀ x₀ free₀ (at₀ .count) (at₀ .frozen) (at₀ .rng .state)) num blocked x free g (at .count) (at .frozen)
-    (at .rng .state)
+    (at .rng .state) directions
 
 abbrev μ-loop : tie.MeasureT-loop
-μ-loop num₀ blocked₀ x₀ free₀ u n cols scale g₀ at₀ num blocked x free g at = freeOnes free
+μ-loop num₀ blocked₀ x₀ free₀ u n cols scale g₀ at₀ directions₀ num blocked x free g at directions = freeOnes free
 
 loop-holds : tie.Need-loop-holds Inv-loop μ-loop
 loop-holds c =
@@ -34,37 +34,12 @@ step-requires c κs =
     let i = c .before .before .before .before .before .before .before .loop .inv in
     (rw (i .rows) (p .0), i .roomy, i .gs ∙ p .2, omega (arith, i .few, p .0 .few))
 
-loop-less : tie.Need-loop-less Inv-loop μ-loop
-loop-less c =
-    let at-step = c .before .before .before .before .before .before .before .before .before .before .before .before .before in
-    let at-if1 = at-step .before .before .before .before .before .before in
-    let at-loop = at-if1 .before .before in
+add-drawn : tie.Need-add-drawn Inv-loop μ-loop
+add-drawn c =
+    let at-loop = c .before .before .before .before .before .before .before .before .before .before .before .before .before
+    .before .before .before .before .before .before in
     let at-start = at-loop .before .before .before .before .before .before .before .before .before in
-    let a = at-start .args in
-    let s = at-loop .loop in
-    let w = held (a .num .now) (a .blocked .now) (a .x .now) (a .free .now) (a .from .count) (a .from .frozen) (a .from .rng .state) in
-    fewer-free (entryOf (a .u .now) (a .n) (a .cols .now) (a .scale .now)) (length (a .cols .now)) (a .num .now) (a .blocked .now)
-    (a .x .now) (a .free .now) (a .g .now) w (s .num) (s .blocked) (s .x) (s .free) (s .g) (s .at .count) (s .at .frozen)
-    (s .at .rng .state) (s .inv) (at-step .step .last .0) (at-step .step .last .1 .0) (at-step .step .last .1 .1 .0)
-    (at-step .step .last .1 .1 .1 .0) (at-step .step .result) (at-if1 .if1 .taken) (at-step .step .ensures)
-    (not-false _ (c .if2 .left))
-
-loop-again : tie.Need-loop-again Inv-loop μ-loop
-loop-again c =
-    let at-step = c .before .before .before .before .before .before .before .before .before .before .before .before .before in
-    let at-if1 = at-step .before .before .before .before .before .before in
-    let at-loop = at-if1 .before .before in
-    let at-start = at-loop .before .before .before .before .before .before .before .before .before in
-    let a = at-start .args in
-    let s = at-loop .loop in
-    let w = held (a .num .now) (a .blocked .now) (a .x .now) (a .free .now) (a .from .count) (a .from .frozen) (a .from .rng .state) in
-    going-on (entryOf (a .u .now) (a .n) (a .cols .now) (a .scale .now)) (length (a .cols .now)) (a .num .now) (a .blocked .now)
-    (a .x .now) (a .free .now) (a .g .now) w (s .num) (s .blocked) (s .x) (s .free) (s .g) (s .at .count) (s .at .frozen)
-    (s .at .rng .state) (s .inv) (at-step .step .last .0) (at-step .step .last .1 .0) (at-step .step .last .1 .1 .0)
-    (at-step .step .last .1 .1 .1 .0) (at-step .step .result) (at-if1 .if1 .taken) (at-step .step .ensures)
-    (at-step .step .last .1 .1 .1 .1 .1 .1 .1 .1 .1 .0) (not-false _ (c .if2 .left)) (at-step .step .kept .0)
-    (at-step .step .kept .1 .0) (at-step .step .kept .1 .1 .0) (at-step .step .kept .1 .1 .1 .0)
-    (at-step .step .kept .1 .1 .1 .1 .1 .1 .1 .1 .1 .0)
+    omega (arith, at-loop .loop .inv .drawn-few, at-loop .loop .inv .few, at-start .pre .0 .few)
 
 same-length : tie.Need-same-length Inv-loop μ-loop
 same-length c = search needs
@@ -83,14 +58,50 @@ same-length-5 c = search needs
 
 returns : tie.Need-returns Inv-loop μ-loop
 returns c =
-    let at-loop = c .before .before in
+    let at-step = c .before .before .before .before .before .before .before .before .before .before .before .before .before in
+    let at-if1 = at-step .before .before .before .before .before .before in
+    let at-loop = at-if1 .before .before in
     let at-start = at-loop .before .before .before .before .before .before .before .before .before in
     let a = at-start .args in
     let s = at-loop .loop in
     let w = held (a .num .now) (a .blocked .now) (a .x .now) (a .free .now) (a .from .count) (a .from .frozen) (a .from .rng .state) in
-    going-full (entryOf (a .u .now) (a .n) (a .cols .now) (a .scale .now)) (length (a .cols .now)) (a .num .now) (a .blocked .now)
+    going-last (entryOf (a .u .now) (a .n) (a .cols .now) (a .scale .now)) (length (a .cols .now)) (a .num .now) (a .blocked .now)
     (a .x .now) (a .free .now) (a .g .now) w (s .num) (s .blocked) (s .x) (s .free) (s .g) (s .at .count) (s .at .frozen)
-    (s .at .rng .state) (s .inv) (c .if1 .left)
+    (s .at .rng .state) (s .directions) (s .inv) (at-step .step .last .0) (at-step .step .last .1 .0) (at-step .step .last .1 .1 .0)
+    (at-step .step .last .1 .1 .1 .0) (at-step .step .result) (at-if1 .if1 .taken) (at-step .step .ensures)
+    (not-true _ (c .if2 .taken))
+
+loop-less : tie.Need-loop-less Inv-loop μ-loop
+loop-less c =
+    let at-step = c .before .before .before .before .before .before .before .before .before .before .before .before .before in
+    let at-if1 = at-step .before .before .before .before .before .before in
+    let at-loop = at-if1 .before .before in
+    let at-start = at-loop .before .before .before .before .before .before .before .before .before in
+    let a = at-start .args in
+    let s = at-loop .loop in
+    let w = held (a .num .now) (a .blocked .now) (a .x .now) (a .free .now) (a .from .count) (a .from .frozen) (a .from .rng .state) in
+    fewer-free (entryOf (a .u .now) (a .n) (a .cols .now) (a .scale .now)) (length (a .cols .now)) (a .num .now) (a .blocked .now)
+    (a .x .now) (a .free .now) (a .g .now) w (s .num) (s .blocked) (s .x) (s .free) (s .g) (s .at .count) (s .at .frozen)
+    (s .at .rng .state) (s .directions) (s .inv) (at-step .step .last .0) (at-step .step .last .1 .0) (at-step .step .last .1 .1 .0)
+    (at-step .step .last .1 .1 .1 .0) (at-step .step .result) (at-if1 .if1 .taken) (at-step .step .ensures)
+    (not-false _ (c .if2 .left))
+
+loop-again : tie.Need-loop-again Inv-loop μ-loop
+loop-again c =
+    let at-step = c .before .before .before .before .before .before .before .before .before .before .before .before .before in
+    let at-if1 = at-step .before .before .before .before .before .before in
+    let at-loop = at-if1 .before .before in
+    let at-start = at-loop .before .before .before .before .before .before .before .before .before in
+    let a = at-start .args in
+    let s = at-loop .loop in
+    let w = held (a .num .now) (a .blocked .now) (a .x .now) (a .free .now) (a .from .count) (a .from .frozen) (a .from .rng .state) in
+    going-on (entryOf (a .u .now) (a .n) (a .cols .now) (a .scale .now)) (length (a .cols .now)) (a .num .now) (a .blocked .now)
+    (a .x .now) (a .free .now) (a .g .now) w (s .num) (s .blocked) (s .x) (s .free) (s .g) (s .at .count) (s .at .frozen)
+    (s .at .rng .state) (s .directions) (s .inv) (at-step .step .last .0) (at-step .step .last .1 .0) (at-step .step .last .1 .1 .0)
+    (at-step .step .last .1 .1 .1 .0) (at-step .step .result) (at-if1 .if1 .taken) (at-step .step .ensures)
+    (at-step .step .last .1 .1 .1 .1 .1 .1 .1 .1 .1 .0) (not-false _ (c .if2 .left)) (at-step .step .kept .0)
+    (at-step .step .kept .1 .0) (at-step .step .kept .1 .1 .0) (at-step .step .kept .1 .1 .1 .0)
+    (at-step .step .kept .1 .1 .1 .1 .1 .1 .1 .1 .1 .0)
 
 same-length-6 : tie.Need-same-length-6 Inv-loop μ-loop
 same-length-6 c = search needs
@@ -109,18 +120,14 @@ same-length-10 c = search needs
 
 returns-2 : tie.Need-returns-2 Inv-loop μ-loop
 returns-2 c =
-    let at-step = c .before .before .before .before .before .before .before .before .before .before .before .before .before in
-    let at-if1 = at-step .before .before .before .before .before .before in
-    let at-loop = at-if1 .before .before in
+    let at-loop = c .before .before in
     let at-start = at-loop .before .before .before .before .before .before .before .before .before in
     let a = at-start .args in
     let s = at-loop .loop in
     let w = held (a .num .now) (a .blocked .now) (a .x .now) (a .free .now) (a .from .count) (a .from .frozen) (a .from .rng .state) in
-    going-last (entryOf (a .u .now) (a .n) (a .cols .now) (a .scale .now)) (length (a .cols .now)) (a .num .now) (a .blocked .now)
+    going-full (entryOf (a .u .now) (a .n) (a .cols .now) (a .scale .now)) (length (a .cols .now)) (a .num .now) (a .blocked .now)
     (a .x .now) (a .free .now) (a .g .now) w (s .num) (s .blocked) (s .x) (s .free) (s .g) (s .at .count) (s .at .frozen)
-    (s .at .rng .state) (s .inv) (at-step .step .last .0) (at-step .step .last .1 .0) (at-step .step .last .1 .1 .0)
-    (at-step .step .last .1 .1 .1 .0) (at-step .step .result) (at-if1 .if1 .taken) (at-step .step .ensures)
-    (not-true _ (c .if2 .taken))
+    (s .at .rng .state) (s .directions) (s .inv) (c .if1 .left) _ refl refl refl refl
 
 pub steps-spec : {M : Type 1} → statement M
 steps-spec =
@@ -130,14 +137,15 @@ steps-spec =
     μ-loop
     loop-holds
     step-requires
-    loop-less
-    loop-again
+    add-drawn
     same-length
     same-length-2
     same-length-3
     same-length-4
     same-length-5
     returns
+    loop-less
+    loop-again
     same-length-6
     same-length-7
     same-length-8

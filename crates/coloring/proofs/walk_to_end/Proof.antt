@@ -1,29 +1,33 @@
--- `coloring::walk` meets its contract: what is left of the walk stays the same from phase to phase, and each phase leaves fewer coordinates free.
+-- `coloring::walk_to_end` meets its contract: what is left of the walk stays the same from phase to phase, and each phase leaves fewer coordinates free.
 use Rattle.seq.specs.Sums.{plusZero}
 use Rattle.entries.specs.Entries.{entryOf}
 use Rattle.walk.specs.Walk.{freeOnes}
 use Rattle.freeze.specs.Held.{Roomy}
 use Rattle.coloring.specs.Coloring.{walked}
 use Rattle.phasing.specs.Phasing.{between}
-use Rattle.coloring.proofs.Walks.{Rooms, onward, walk-begun, walk-falls, walk-turn, walk-over, roomy-still}
+use Rattle.coloring.proofs.Walks.{Rooms, onward, walk-begun, walk-falls, walk-few, walk-turn, walk-over, roomy-still}
+use Rattle.seq.specs.Marks.{isSet}
+use Rattle.seq.proofs.Keeping.{count-short}
 use borrow.Author.Needs.{needs}
+use Prim.Native.Nat.{_+_, _*_, _≤_}
 use mathlib.Core.Path.{_≡_, refl, sym, _∙_}
 use native.Mathlib.Omega.{arith}
 use lib.ListN.{length}
-use Rattle.coloring.proofs.walk.Statement.{statement}
-use Rattle.coloring.proofs.walk.Tie as tie
+use Rattle.coloring.proofs.walk_to_end.Statement.{statement}
+use Rattle.coloring.proofs.walk_to_end.Tie as tie
 
 abbrev Inv-loop : tie.InvT-loop
-Inv-loop num₀ blocked₀ x₀ free₀ u n cols scale places₀ subcols₀ subscale₀ subx₀ subfree₀ g₀ r₀ left₀ num blocked x free places
-    subcols subscale subx subfree g r left =
+Inv-loop num₀ blocked₀ x₀ free₀ u n cols scale places₀ subcols₀ subscale₀ subx₀ subfree₀ g₀ r₀ directions₀ left₀ num blocked x free places
+    subcols subscale subx subfree g r directions left =
     Roomy (length cols) num blocked x free 0 × (length num ≡ length num₀) × (length blocked ≡ length blocked₀) × (left ≡ freeOnes free)
     × Rooms places subcols subscale subx subfree g
     × (walked plusZero (entryOf u n cols scale) (length cols) (length blocked₀) (r₀ .state)
-    ≡ onward plusZero (entryOf u n cols scale) (length cols) (length blocked₀) (between (length blocked₀) num x free (r .state)))
+    ≡ onward plusZero (entryOf u n cols scale) (length cols) (length blocked₀) (between (length blocked₀) num x free (r .state) directions))
+    × (directions + 2 * freeOnes free ≤ 2 * length cols)
 
 abbrev μ-loop : tie.MeasureT-loop
-μ-loop num₀ blocked₀ x₀ free₀ u n cols scale places₀ subcols₀ subscale₀ subx₀ subfree₀ g₀ r₀ left₀ num blocked x free places
-    subcols subscale subx subfree g r left = left
+μ-loop num₀ blocked₀ x₀ free₀ u n cols scale places₀ subcols₀ subscale₀ subx₀ subfree₀ g₀ r₀ directions₀ left₀ num blocked x free places
+    subcols subscale subx subfree g r directions left = left
 
 count-free-requires : tie.Need-count-free-requires Inv-loop μ-loop
 count-free-requires c κs = search needs
@@ -37,6 +41,7 @@ loop-holds c =
       c .count-free .ensures,
       record { places = refl; subcols = refl; subscale = refl; subx = refl; subfree = refl; g = refl },
       walk-begun _ _ _ _ _ _ _ _ (start .pre .2),
+      omega (arith, count-short (isSet (start .args .free .now)) (length (start .args .free .now)), start .pre .1 .marks),
     )
 
 slice-aggregate-next-phase : tie.Need-slice-aggregate-next-phase Inv-loop μ-loop
@@ -74,34 +79,56 @@ next-phase-requires c κs =
       ),
     )
 
+add-directions : tie.Need-add-directions Inv-loop μ-loop
+add-directions c =
+    let at-next-phase = c .before .before .before .before .before .before .before .before .before .before .before .before .before .before .before in
+    let at-loop-test = at-next-phase .before .before .before .before .before .before .before .before .before .before .before in
+    let at-loop = at-loop-test .before in
+    let at-start = at-loop .before .before .before .before .before .before .before .before .before .before in
+    let a = at-start .args in
+    let l = at-loop .loop in
+    let step = rw (l .inv .2) at (at-next-phase .next-phase .ensures (l .directions)) in
+    omega (
+      arith,
+      at-start .pre .0 .few,
+      l .inv .6,
+      walk-few plusZero (entryOf (a .u .now) (a .n) (a .cols .now) (a .scale .now)) (length (a .cols .now))
+          (length (a .blocked .now)) (between (length (a .blocked .now)) (l .num) (l .x) (l .free) (l .r .state) (l .directions)) _ step
+          (λ z. omega (arith, l .inv .3, at-loop-test .loop-test .taken)) (l .inv .0 .marks),
+    )
+
 count-free-requires-2 : tie.Need-count-free-requires-2 Inv-loop μ-loop
 count-free-requires-2 c κs = search needs
 
 loop-less : tie.Need-loop-less Inv-loop μ-loop
 loop-less c =
-    let at-next-phase = c .before .before .before .before .before .before .before .before .before .before .before .before .before .before .before .before in
+    let at-next-phase = c .before .before .before .before .before .before .before .before .before .before .before .before .before
+    .before .before .before .before in
     let at-loop-test = at-next-phase .before .before .before .before .before .before .before .before .before .before .before in
     let at-loop = at-loop-test .before in
-    let a = at-loop .before .before .before .before .before .before .before .before .before .before .args in
+    let at-start = at-loop .before .before .before .before .before .before .before .before .before .before in
+    let a = at-start .args in
     let l = at-loop .loop in
-    let step = rw (l .inv .2) at (at-next-phase .next-phase .ensures) in
+    let step = rw (l .inv .2) at (at-next-phase .next-phase .ensures (l .directions)) in
     omega (
       arith,
       c .count-free2 .ensures,
       l .inv .3,
       walk-falls plusZero (entryOf (a .u .now) (a .n) (a .cols .now) (a .scale .now)) (length (a .cols .now))
-          (length (a .blocked .now)) (between (length (a .blocked .now)) (l .num) (l .x) (l .free) (l .r .state)) _ step
+          (length (a .blocked .now)) (between (length (a .blocked .now)) (l .num) (l .x) (l .free) (l .r .state) (l .directions)) _ step
           (λ z. omega (arith, l .inv .3, at-loop-test .loop-test .taken)),
     )
 
 loop-again : tie.Need-loop-again Inv-loop μ-loop
 loop-again c =
-    let at-next-phase = c .before .before .before .before .before .before .before .before .before .before .before .before .before .before .before .before in
+    let at-next-phase = c .before .before .before .before .before .before .before .before .before .before .before .before .before
+    .before .before .before .before in
     let at-loop-test = at-next-phase .before .before .before .before .before .before .before .before .before .before .before in
     let at-loop = at-loop-test .before in
-    let a = at-loop .before .before .before .before .before .before .before .before .before .before .args in
+    let at-start = at-loop .before .before .before .before .before .before .before .before .before .before in
+    let a = at-start .args in
     let l = at-loop .loop in
-    let step = rw (l .inv .2) at (at-next-phase .next-phase .ensures) in
+    let step = rw (l .inv .2) at (at-next-phase .next-phase .ensures (l .directions)) in
     let kept = at-next-phase .next-phase .kept in (
       roomy-still _ _ _ _ _ _ _ _ _ (l .inv .0) (kept .0) (kept .1 .0) (kept .1 .1 .0) (kept .1 .1 .1 .0),
       kept .0 ∙ l .inv .1,
@@ -116,8 +143,15 @@ loop-again c =
         g = kept .1 .1 .1 .1 .1 .1 .1 .1 .1 .1 .1 .1 .1 .1 .0 ∙ l .inv .4 .g;
       },
       l .inv .5 ∙ walk-turn plusZero (entryOf (a .u .now) (a .n) (a .cols .now) (a .scale .now)) (length (a .cols .now))
-          (length (a .blocked .now)) (between (length (a .blocked .now)) (l .num) (l .x) (l .free) (l .r .state)) _ step
+          (length (a .blocked .now)) (between (length (a .blocked .now)) (l .num) (l .x) (l .free) (l .r .state) (l .directions)) _ step
           (λ z. omega (arith, l .inv .3, at-loop-test .loop-test .taken)),
+      omega (
+        arith,
+        l .inv .6,
+        walk-few plusZero (entryOf (a .u .now) (a .n) (a .cols .now) (a .scale .now)) (length (a .cols .now))
+            (length (a .blocked .now)) (between (length (a .blocked .now)) (l .num) (l .x) (l .free) (l .r .state) (l .directions)) _ step
+            (λ z. omega (arith, l .inv .3, at-loop-test .loop-test .taken)) (l .inv .0 .marks),
+      ),
     )
 
 same-length : tie.Need-same-length Inv-loop μ-loop
@@ -138,10 +172,10 @@ returns c =
     let a = at-start .args in
     let l = c .before .loop in
     sym (l .inv .5 ∙ walk-over plusZero (entryOf (a .u .now) (a .n) (a .cols .now) (a .scale .now)) (length (a .cols .now))
-    (length (a .blocked .now)) (between (length (a .blocked .now)) (l .num) (l .x) (l .free) (l .r .state)) (omega arith))
+    (length (a .blocked .now)) (between (length (a .blocked .now)) (l .num) (l .x) (l .free) (l .r .state) (l .directions)) (omega arith))
 
-pub walk-spec : {M : Type 1} → statement M
-walk-spec =
+pub walk-to-end-spec : {M : Type 1} → statement M
+walk-to-end-spec =
     tie.close
     (tie.spec
     Inv-loop
@@ -155,6 +189,7 @@ walk-spec =
     slice-aggregate-next-phase-5
     slice-aggregate-next-phase-6
     next-phase-requires
+    add-directions
     count-free-requires-2
     loop-less
     loop-again
