@@ -70,7 +70,12 @@ static int untouched(void) {
 }
 
 static int answers(knob_answer a, uint64_t no, uint64_t stage, uint64_t nonzeros, uint64_t change) {
-    return a.number == no && a.stage == stage && a.nonzeros == nonzeros && bits(a.change) == change;
+    size_t k;
+    int path = no != KNOB_ACCEPTED || (a.path_nonzeros[stage] == nonzeros && bits(a.path_change[stage]) == change);
+    for (k = no == KNOB_ACCEPTED ? stage + 1 : 0; k < KNOB_MAX_STAGES; k++) {
+        path = path && a.path_nonzeros[k] == 0 && bits(a.path_change[k]) == 0;
+    }
+    return a.number == no && a.stage == stage && a.nonzeros == nonzeros && bits(a.change) == change && path;
 }
 
 /* A weight that is left: its place, and its bits. */

@@ -77,6 +77,7 @@ double knob_cos_draw(uint64_t word);
 
 #define KNOB_MAX_COLUMNS 256
 #define KNOB_MAX_ROWS 4096
+#define KNOB_MAX_STAGES 9 /* a pass leaves at most half the nonzeros, rounded down: from 256 there are at most nine stages, 0 to 8 */
 
 enum knob_number {
     KNOB_ACCEPTED = 0,
@@ -102,6 +103,8 @@ typedef struct {
     uint64_t stage;    /* the stage returned: 0 the normalised weights, and one more with each pass that was kept */
     uint64_t nonzeros; /* the weights returned that are not 0 */
     double change;     /* the largest change of a row's margin from the normalised weights to those returned */
+    uint64_t path_nonzeros[KNOB_MAX_STAGES]; /* the path: nonzeros of each stage from 0 to the one returned, and zeros after it */
+    double path_change[KNOB_MAX_STAGES];     /* and the change of each; nonzeros and change above are those at stage */
 } knob_answer;
 
 /* Thins weights to at most `target` nonzeros: the first stage that has no more. The weights are divided by the sum of their

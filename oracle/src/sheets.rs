@@ -127,7 +127,7 @@ fn by_calls(e: &Ensemble, rule: Rule) -> String {
     let (numbers, indices) = scratch_sizes(e.m, e.n);
     let (mut numbers, mut indices) = (vec![7.0; numbers as usize], vec![7; indices as usize]);
     let mut output = vec![7.0; e.m];
-    let mut a = Answer { number: 77, stage: 77, nonzeros: 77, change: 77.0 };
+    let mut a = Answer::noise();
     unsafe {
         match rule {
             Rule::Target(target) => knob_sparsify(

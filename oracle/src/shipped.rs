@@ -68,7 +68,7 @@ fn thinnings(how_many: usize, m: usize, n: usize, kind: Entries, chance: &mut Ch
             let weights: Vec<f64> = (0..m).map(|_| chance.unit() + 0.5).collect();
             let seed = chance.word();
             let (mut output, (mut numbers, mut indices)) = (vec![0.0; m], scratch(m, n));
-            let mut answer = thinning_calls::Answer { number: 0, stage: 0, nonzeros: 0, change: 0.0 };
+            let mut answer = thinning_calls::Answer::noise();
             unsafe {
                 thinning_calls::knob_sparsify(
                     &mut answer,

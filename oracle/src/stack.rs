@@ -77,7 +77,7 @@ fn all() -> Tally {
     let mut numbers = vec![0.0; m * (n + 1) + m * m + 16 * m + 8 * (n + 1)];
     let mut indices = vec![0u32; 8 * (m + n + 1)];
     let (lent, length) = (matrix.as_ptr(), matrix.len());
-    let mut answer = thinning_calls::Answer { number: 0, stage: 0, nonzeros: 0, change: 0.0 };
+    let mut answer = thinning_calls::Answer::noise();
     let (numbers_at, indices_at) = ((numbers.as_mut_ptr(), numbers.len()), (indices.as_mut_ptr(), indices.len()));
     measure("discrepancy_coloring", ALLOWED, &mut tally, || unsafe {
         coloring_call::knob_discrepancy_coloring(

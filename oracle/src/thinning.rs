@@ -41,8 +41,7 @@ struct Made {
 }
 
 fn make(e: &Ensemble, rule: Rule, mut output: Lent<u64>, mut scratch: Scratch) -> Made {
-    // Noise, so that a field that is not written shows.
-    let mut answer = Answer { number: 77, stage: 77, nonzeros: 77, change: 77.0 };
+    let mut answer = Answer::noise();
     let (lengths, numbers, indices) = (output.len(), scratch.numbers.len(), scratch.indices.len());
     let (matrix, weights) = (e.matrix.as_ptr(), e.weights.as_ptr());
     let (to, first, second) = (output.lend().cast(), scratch.numbers.lend().cast(), scratch.indices.lend());
@@ -118,7 +117,11 @@ impl Comparison {
                 Expected::Document(said) => (said, &mut self.outside),
             };
             let a = made.answer;
-            let record = a.number == 0 && a.stage == said.stage && a.nonzeros == said.nonzeros && same(a.change, said.change);
+            let record = a.number == 0
+                && a.stage == said.stage
+                && a.nonzeros == said.nonzeros
+                && same(a.change, said.change)
+                && a.has_path(&said.path);
             let weights = made.output.content().iter().copied().eq(said.weights.iter().map(|w| w.to_bits()));
             tally.note(record && weights, || {
                 format!("{}, expected stage {}, nonzeros {}, change {}", name(), said.stage, said.nonzeros, said.change)
@@ -151,7 +154,8 @@ impl Comparison {
             && if expected == 0 {
                 made.scratch.wiped()
             } else {
-                a.stage == 0 && a.nonzeros == 0 && a.change.to_bits() == 0 && made.output.untouched() && made.scratch.untouched()
+                let zeros = a.stage == 0 && a.nonzeros == 0 && a.change.to_bits() == 0 && a.has_path(&[]);
+                zeros && made.output.untouched() && made.scratch.untouched()
             };
         self.refusals.note(right, || format!("{} columns, {} rows, {rule:?}: {a:?}, expected {expected}", e.m, e.n));
     }

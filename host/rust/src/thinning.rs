@@ -34,6 +34,9 @@ pub struct Thinned {
     pub nonzeros: usize,
     /// The largest change of a row's margin from the normalised weights to those returned.
     pub change: f64,
+    /// Nonzeros and change of each stage, from 0 to the one returned. The nonzeros fall strictly, each to at most half, so that there are
+    /// at most nine stages; the last is `(nonzeros, change)`.
+    pub path: Vec<(usize, f64)>,
 }
 
 /// Thins weights, and gives the whole answer. [`sparsify`] and [`sparsify_within`] give its weights alone.
@@ -85,7 +88,9 @@ pub fn thin(columns: &[Vec<f64>], weights: &[f64], job: Job) -> Result<Thinned, 
         }
     };
     Refusal::check(answer.number)?;
-    Ok(Thinned { weights: output, stage: answer.stage as usize, nonzeros: answer.nonzeros as usize, change: answer.change })
+    let stage = answer.stage as usize;
+    let path = answer.path_nonzeros.iter().zip(answer.path_change).take(stage + 1).map(|(left, change)| (*left as usize, change)).collect();
+    Ok(Thinned { weights: output, stage, nonzeros: answer.nonzeros as usize, change: answer.change, path })
 }
 
 /// Thins weights to at most `target` nonzeros. The weights are divided by the sum of their magnitudes first; signs are kept, and a

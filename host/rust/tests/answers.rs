@@ -12,6 +12,8 @@ struct Answer {
     stage: u64,
     nonzeros: u64,
     change: f64,
+    path_nonzeros: [u64; 9],
+    path_change: [f64; 9],
 }
 
 #[cfg(target_arch = "x86_64")]
@@ -53,7 +55,10 @@ fn directly(columns: &[Vec<f64>], weights: &[f64], job: Job) -> Thinned {
     };
     assert_eq!(a.number, 0);
     assert!(numbers.iter().all(|x| x.to_bits() == 0) && indices.iter().all(|x| *x == 0));
-    Thinned { weights: output, stage: a.stage as usize, nonzeros: a.nonzeros as usize, change: a.change }
+    let stage = a.stage as usize;
+    let path = (0..=stage).map(|k| (a.path_nonzeros[k] as usize, a.path_change[k])).collect();
+    assert!((stage + 1..9).all(|k| a.path_nonzeros[k] == 0 && a.path_change[k].to_bits() == 0));
+    Thinned { weights: output, stage, nonzeros: a.nonzeros as usize, change: a.change, path }
 }
 
 /// A small generator for the tests' own choices.

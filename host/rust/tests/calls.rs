@@ -13,21 +13,24 @@ fn weights(m: usize) -> Vec<f64> {
     (0..m).map(|j| if j % 5 == 2 { -1.0 } else { 1.0 } * (1 + j * j % 11) as f64).collect()
 }
 
-/// A thinned ensemble of so many weights, of which these are left.
-fn answer(m: usize, stage: usize, nonzeros: usize, change: u64, left: &[(usize, u64)]) -> Thinned {
+/// A thinned ensemble of so many weights, of which these are left. Of the path only the ends are known.
+fn hold(thinned: Thinned, m: usize, stage: usize, nonzeros: usize, change: u64, left: &[(usize, u64)]) {
     let mut weights = vec![0.0; m];
     left.iter().for_each(|(place, bits)| weights[*place] = f64::from_bits(*bits));
-    Thinned { weights, stage, nonzeros, change: f64::from_bits(change) }
+    let change = f64::from_bits(change);
+    assert_eq!((thinned.weights, thinned.stage, thinned.nonzeros, thinned.change), (weights, stage, nonzeros, change));
+    assert_eq!((thinned.path.len(), thinned.path[0], thinned.path[stage]), (stage + 1, (m, 0.0), (nonzeros, change)));
+    assert!(thinned.path.windows(2).all(|two| two[1].0 <= two[0].0 / 2));
 }
 
 #[test]
 fn target() {
     let left =
         [(3, 0x3FB826A439F656F2), (4, 0x3FCCFB2B78C13523), (5, 0x3FC3521CFB2B78C2), (17, 0xBFC3521CFB2B78C2), (19, 0x3FD826A439F656F2)];
-    let expected = answer(24, 2, 5, 0x3FDC6EF752A04B3C, &left);
     let (columns, weights) = (columns(24, 5), weights(24));
-    assert_eq!(sparsify(&columns, &weights, 7, 3).as_ref(), Ok(&expected.weights));
-    assert_eq!(thin(&columns, &weights, Job { seed: 3, rule: Rule::Target(7) }), Ok(expected));
+    let thinned = thin(&columns, &weights, Job { seed: 3, rule: Rule::Target(7) }).unwrap();
+    assert_eq!(sparsify(&columns, &weights, 7, 3).as_ref(), Ok(&thinned.weights));
+    hold(thinned, 24, 2, 5, 0x3FDC6EF752A04B3C, &left);
 }
 
 #[test]
@@ -42,10 +45,10 @@ fn within() {
         (35, 0x3FC0690690690690),
         (36, 0x3FD0690690690690),
     ];
-    let expected = answer(40, 2, 8, 0x3FD171B8E4FA2B41, &left);
     let (columns, weights) = (columns(40, 7), weights(40));
-    assert_eq!(sparsify_within(&columns, &weights, 0.03125, Some(12), 4).as_ref(), Ok(&expected.weights));
-    assert_eq!(thin(&columns, &weights, Job { seed: 4, rule: Rule::Within { allowance: 0.03125, cap: Some(12) } }), Ok(expected));
+    let thinned = thin(&columns, &weights, Job { seed: 4, rule: Rule::Within { allowance: 0.03125, cap: Some(12) } }).unwrap();
+    assert_eq!(sparsify_within(&columns, &weights, 0.03125, Some(12), 4).as_ref(), Ok(&thinned.weights));
+    hold(thinned, 40, 2, 8, 0x3FD171B8E4FA2B41, &left);
 }
 
 #[test]

@@ -23,7 +23,9 @@ fn on_every_seed(weights: [f64; 2], rule: Rule) -> Result<Thinned, Refusal> {
 }
 
 fn answer(weights: [f64; 2], stage: usize, nonzeros: usize, change: f64) -> Result<Thinned, Refusal> {
-    Ok(Thinned { weights: weights.to_vec(), stage, nonzeros, change })
+    // Both weights are there at stage 0 where there is a stage 1.
+    let path = if stage == 0 { vec![(nonzeros, change)] } else { vec![(2, 0.0), (nonzeros, change)] };
+    Ok(Thinned { weights: weights.to_vec(), stage, nonzeros, change, path })
 }
 
 /// Many columns of 1 and -1, in a fixed pattern.

@@ -9,6 +9,21 @@ pub struct Answer {
     pub stage: u64,
     pub nonzeros: u64,
     pub change: f64,
+    pub path_nonzeros: [u64; 9],
+    pub path_change: [f64; 9],
+}
+
+impl Answer {
+    /// The path is this one, and zeros stand after it.
+    pub fn has_path(&self, path: &[(u64, f64)]) -> bool {
+        let at = |k: usize| path.get(k).copied().unwrap_or((0, 0.0));
+        (0..9).all(|k| self.path_nonzeros[k] == at(k).0 && self.path_change[k].to_bits() == at(k).1.to_bits())
+    }
+
+    /// Noise, so that a field that is not written shows.
+    pub fn noise() -> Answer {
+        Answer { number: 77, stage: 77, nonzeros: 77, change: 77.0, path_nonzeros: [77; 9], path_change: [77.0; 9] }
+    }
 }
 
 extern "C" {

@@ -36,7 +36,7 @@ pub fn scratch(m: usize, n: usize) -> (Vec<f64>, Vec<u32>) {
 pub fn job(matrix: &[f64], m: usize, n: usize, weights: &[f64]) -> (f64, f64) {
     let columns = matrices::columns(matrix, m, n);
     let (mut output, (mut numbers, mut indices)) = (vec![0.0; m], scratch(m, n));
-    let mut answer = thinning_calls::Answer { number: 0, stage: 0, nonzeros: 0, change: 0.0 };
+    let mut answer = thinning_calls::Answer::noise();
     let ours = |seed: u64| unsafe {
         thinning_calls::knob_sparsify(
             &mut answer,
