@@ -203,14 +203,18 @@ static void discrepancy_coloring(void) {
         static const int8_t signs[] = {1, -1, -1, -1, 1, -1, 1, 1, -1, 0x5A};
         fill(m, n);
         lend();
-        hold("knob_discrepancy_coloring, its number", CALL_knob_discrepancy_coloring == KNOB_ACCEPTED);
+        const knob_colored colored = CALL_knob_discrepancy_coloring;
+        hold("knob_discrepancy_coloring, its number", colored.number == KNOB_ACCEPTED);
+        hold("knob_discrepancy_coloring, its counts", colored.directions == 9 && colored.sweeps == 1);
         hold("knob_discrepancy_coloring", memcmp(signs_room, signs, sizeof signs) == 0 && wiped(numbers_length, indices_length));
     }
     { /* No two of these are equal. */
         const size_t m = 257, n = 5, matrix_length = 6, output_length = 8, numbers_length = 9, indices_length = 10;
         const uint64_t seed = 12;
         lend();
-        hold("knob_discrepancy_coloring, refused", CALL_knob_discrepancy_coloring == KNOB_REFUSED_SIZE && untouched());
+        const knob_colored colored = CALL_knob_discrepancy_coloring;
+        hold("knob_discrepancy_coloring, refused", colored.number == KNOB_REFUSED_SIZE && colored.directions == 0 && colored.sweeps == 0);
+        hold("knob_discrepancy_coloring, refused and untouched", untouched());
     }
 }
 

@@ -107,6 +107,13 @@ typedef struct {
     double path_change[KNOB_MAX_STAGES];     /* and the change of each; nonzeros and change above are those at stage */
 } knob_answer;
 
+/* The answer to a colouring. */
+typedef struct {
+    uint64_t number;     /* 0, or why it was refused; then the rest is 0 */
+    uint64_t directions; /* how many directions were drawn, one that was broken off among them: at most 2*m, hence at most 2*m*m Gaussians */
+    uint64_t sweeps;     /* how many sweeps local search made, the last, which turns nothing, among them: at most 100 */
+} knob_colored;
+
 /* Thins weights to at most `target` nonzeros: the first stage that has no more. The weights are divided by the sum of their
    magnitudes (stage 0); each pass then keeps the largest third as it is and, of the rest, about a quarter, doubled twice, so that every
    row's margin, the sum of entry times weight over the columns, stays near what it was. Signs are kept, and a weight that is 0 stays 0.
@@ -134,9 +141,11 @@ knob_answer knob_sparsify_within(const double *matrix, size_t matrix_length, siz
 /* A signing of the columns by 1 and -1 (m of them, written to output) that tries to keep every row's sum of entry times sign small.
    Entries may be any doubles up to 2^32 in magnitude. The seed starts the generator. Answers 0, 3, 4, 6 or 11. No columns or no rows are
    fine. */
-uint64_t knob_discrepancy_coloring(const double *matrix, size_t matrix_length, size_t m, size_t n, uint64_t seed,
-                                   int8_t *output, size_t output_length,
-                                   double *numbers, size_t numbers_length, uint32_t *indices, size_t indices_length);
+#if !defined(__aarch64__) /* there, see the end */
+knob_colored knob_discrepancy_coloring(const double *matrix, size_t matrix_length, size_t m, size_t n, uint64_t seed,
+                                       int8_t *output, size_t output_length,
+                                       double *numbers, size_t numbers_length, uint32_t *indices, size_t indices_length);
+#endif
 
 /* The largest change of a row's margin when the weights `before` are replaced by `after`, both used as given: per row the running sum
    of entry * (before - after) over the columns in order, columns whose difference is 0 left out; then the largest magnitude, NaNs left
@@ -180,7 +189,10 @@ uint64_t knob_moved_again(const double *matrix, size_t matrix_length, size_t m, 
 
 #if defined(__aarch64__)
 /* On Arm the archive's calls write a record through an address, their first parameter, which is not how C returns one there. So the
-   two are declared as they are, and each name then stands for a function of the form above. */
+   three are declared as they are, and each name then stands for a function of the form above. */
+knob_colored *knob_discrepancy_coloring(knob_colored *answer, const double *matrix, size_t matrix_length, size_t m, size_t n, uint64_t seed,
+                                        int8_t *output, size_t output_length,
+                                        double *numbers, size_t numbers_length, uint32_t *indices, size_t indices_length);
 knob_answer *knob_sparsify(knob_answer *answer, const double *matrix, size_t matrix_length, size_t m, size_t n,
                            const double *weights, size_t weights_length, uint64_t seed, size_t target,
                            double *output, size_t output_length,
@@ -190,6 +202,15 @@ knob_answer *knob_sparsify_within(knob_answer *answer, const double *matrix, siz
                                   double allowance, uint32_t capped, size_t cap,
                                   double *output, size_t output_length,
                                   double *numbers, size_t numbers_length, uint32_t *indices, size_t indices_length);
+
+static inline knob_colored knob_discrepancy_coloring_returned(const double *matrix, size_t matrix_length, size_t m, size_t n, uint64_t seed,
+                                                              int8_t *output, size_t output_length,
+                                                              double *numbers, size_t numbers_length,
+                                                              uint32_t *indices, size_t indices_length) {
+    knob_colored answer;
+    return *knob_discrepancy_coloring(&answer, matrix, matrix_length, m, n, seed, output, output_length, numbers, numbers_length,
+                                      indices, indices_length);
+}
 
 static inline knob_answer knob_sparsify_returned(const double *matrix, size_t matrix_length, size_t m, size_t n,
                                                  const double *weights, size_t weights_length, uint64_t seed, size_t target,
@@ -210,6 +231,7 @@ static inline knob_answer knob_sparsify_within_returned(const double *matrix, si
                                  output, output_length, numbers, numbers_length, indices, indices_length);
 }
 
+#define knob_discrepancy_coloring knob_discrepancy_coloring_returned
 #define knob_sparsify knob_sparsify_returned
 #define knob_sparsify_within knob_sparsify_within_returned
 #endif

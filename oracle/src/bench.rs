@@ -56,7 +56,9 @@ fn colorings(chance: &mut Chance) {
         let columns = matrices::columns(&matrix, m, n);
         let (mut output, (mut numbers, mut indices)) = (vec![0i8; m], scratch(m, n));
         let ours = |seed: u64| unsafe {
-            let number = coloring_call::knob_discrepancy_coloring(
+            let mut colored = coloring_call::Colored::noise();
+            coloring_call::knob_discrepancy_coloring(
+                &mut colored,
                 matrix.as_ptr(),
                 matrix.len(),
                 m,
@@ -69,7 +71,7 @@ fn colorings(chance: &mut Chance) {
                 indices.as_mut_ptr(),
                 indices.len(),
             );
-            assert_eq!(number, 0, "a colouring is accepted");
+            assert_eq!(colored.number, 0, "a colouring is accepted");
         };
         let times = best(|seed| drop(black_box(peer::discrepancy_coloring(&columns, seed))), ours);
         line(&format!("colouring {m}x{n}"), times);

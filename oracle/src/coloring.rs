@@ -22,6 +22,7 @@ mod tally;
 mod watch;
 
 use chance::{count, Chance, ZERO_FIRST};
+use coloring_call::Colored;
 use domain::{Domain, Expected};
 use lent::{scratch_sizes, Lent, Scratch};
 use tally::{end, Tally};
@@ -43,10 +44,12 @@ impl Call {
         Call { matrix, m, n, seed: chance.seed(), output, scratch: Scratch::enough(m, n, chance) }
     }
 
-    fn make(&mut self) -> u64 {
+    fn make(&mut self) -> Colored {
+        let mut answer = Colored::noise();
         let (output, numbers, indices) = (self.output.len(), self.scratch.numbers.len(), self.scratch.indices.len());
         unsafe {
             coloring_call::knob_discrepancy_coloring(
+                &mut answer,
                 self.matrix.as_ptr(),
                 self.matrix.len(),
                 self.m,
@@ -58,8 +61,9 @@ impl Call {
                 numbers,
                 self.scratch.indices.lend(),
                 indices,
-            )
+            );
         }
+        answer
     }
 
     /// Document 01's table for a colouring.
@@ -98,10 +102,13 @@ impl Comparison {
         let given: Vec<u64> = call.matrix.iter().map(|a| a.to_bits()).collect();
         let columns = matrices::columns(&call.matrix, call.m, call.n);
         let expected = self.domain.expect(|| original::discrepancy_coloring(&columns, call.seed));
-        let number = call.make();
+        let seen = watch::seen();
+        let a = call.make();
+        let counted = a.number == 0 && a.directions == seen.directions && a.sweeps == seen.sweeps;
+        let name = || format!("{}: {a:?}, expected {} directions, {} sweeps", call.name(), seen.directions, seen.sweeps);
         match expected {
-            Expected::Original(colors) => self.answers.note(number == 0 && call.output.content() == colors, || call.name()),
-            Expected::Document(colors) => self.outside.note(number == 0 && call.output.content() == colors, || call.name()),
+            Expected::Original(colors) => self.answers.note(counted && call.output.content() == colors, name),
+            Expected::Document(colors) => self.outside.note(counted && call.output.content() == colors, name),
         }
         self.scratch.note(call.scratch.wiped() && call.output.fenced(), || call.name());
         self.inputs.note(call.matrix.iter().map(|a| a.to_bits()).eq(given), || call.name());
@@ -109,9 +116,10 @@ impl Comparison {
 
     fn refused(&mut self, mut call: Call) {
         let expected = call.refusal();
-        let number = call.make();
-        let kept = if expected == 0 { call.scratch.wiped() } else { call.output.untouched() && call.scratch.untouched() };
-        self.refusals.note(number == expected && kept, || format!("{}: {number}, expected {expected}, buffers right: {kept}", call.name()));
+        let a = call.make();
+        let zeros = a.directions == 0 && a.sweeps == 0;
+        let kept = if expected == 0 { call.scratch.wiped() } else { zeros && call.output.untouched() && call.scratch.untouched() };
+        self.refusals.note(a.number == expected && kept, || format!("{}: {a:?}, expected {expected}, the rest right: {kept}", call.name()));
     }
 }
 

@@ -102,8 +102,10 @@ fn colorings(how_many: usize, m: usize, n: usize, kind: Entries, chance: &mut Ch
             let matrix = kind.of(m, n, chance);
             let seed = chance.word();
             let (mut output, (mut numbers, mut indices)) = (vec![0i8; m], scratch(m, n));
-            let number = unsafe {
+            let mut colored = coloring_call::Colored::noise();
+            unsafe {
                 coloring_call::knob_discrepancy_coloring(
+                    &mut colored,
                     matrix.as_ptr(),
                     matrix.len(),
                     m,
@@ -117,7 +119,7 @@ fn colorings(how_many: usize, m: usize, n: usize, kind: Entries, chance: &mut Ch
                     indices.len(),
                 )
             };
-            assert_eq!(number, 0, "a colouring is accepted");
+            assert_eq!(colored.number, 0, "a colouring is accepted");
             output != peer::discrepancy_coloring(&matrices::columns(&matrix, m, n), seed)
         })
         .count();

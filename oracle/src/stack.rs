@@ -80,7 +80,9 @@ fn all() -> Tally {
     let mut answer = thinning_calls::Answer::noise();
     let (numbers_at, indices_at) = ((numbers.as_mut_ptr(), numbers.len()), (indices.as_mut_ptr(), indices.len()));
     measure("discrepancy_coloring", ALLOWED, &mut tally, || unsafe {
+        let mut colored = coloring_call::Colored::noise();
         coloring_call::knob_discrepancy_coloring(
+            &mut colored,
             lent,
             length,
             m,
@@ -92,7 +94,8 @@ fn all() -> Tally {
             numbers_at.1,
             indices_at.0,
             indices_at.1,
-        )
+        );
+        colored.number
     });
     measure("sparsify", ALLOWED, &mut tally, || unsafe {
         let (w, out) = (weights.as_ptr(), output.as_mut_ptr());

@@ -15,6 +15,15 @@ pub struct Answer {
     pub path_change: [f64; 9],
 }
 
+/// The answer to a colouring.
+#[derive(Default)]
+#[repr(C)]
+pub struct Colored {
+    pub number: u64,
+    pub directions: u64,
+    pub sweeps: u64,
+}
+
 extern "C" {
     pub fn knob_sparsify(
         answer: *mut Answer,
@@ -55,6 +64,7 @@ extern "C" {
     ) -> *mut Answer;
 
     pub fn knob_discrepancy_coloring(
+        answer: *mut Colored,
         matrix: *const f64,
         matrix_length: usize,
         m: usize,
@@ -66,7 +76,7 @@ extern "C" {
         numbers_length: usize,
         indices: *mut u32,
         indices_length: usize,
-    ) -> u64;
+    ) -> *mut Colored;
 
     pub fn knob_max_margin_change(
         matrix: *const f64,

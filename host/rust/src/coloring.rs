@@ -1,6 +1,6 @@
 //! The colouring of a matrix's columns.
 
-use crate::archive::knob_discrepancy_coloring;
+use crate::archive::{knob_discrepancy_coloring, Colored};
 use crate::lent::{Matrix, Scratch};
 use crate::Refusal;
 
@@ -13,12 +13,30 @@ use crate::Refusal;
 /// assert_eq!(signs[0], -signs[1]);
 /// ```
 pub fn discrepancy_coloring(columns: &[Vec<f64>], seed: u64) -> Result<Vec<i8>, Refusal> {
+    color(columns, seed).map(|coloring| coloring.signs)
+}
+
+/// A colouring, and what it took.
+#[derive(Clone, Debug, PartialEq, Eq)]
+pub struct Coloring {
+    /// The signs, one for each column: what [`discrepancy_coloring`] gives.
+    pub signs: Vec<i8>,
+    /// How many directions were drawn, one that was broken off among them: at most 2k for k columns, hence at most 2k² Gaussians.
+    pub directions: usize,
+    /// How many sweeps local search made, the last, which turns nothing, among them: at most 100.
+    pub sweeps: usize,
+}
+
+/// The same signing, and how many directions and sweeps it took. Refusals as [`discrepancy_coloring`]'s.
+pub fn color(columns: &[Vec<f64>], seed: u64) -> Result<Coloring, Refusal> {
     let matrix = Matrix::new(columns);
     let mut scratch = Scratch::new(&matrix);
     let mut output = vec![0; columns.len()];
+    let mut colored = Colored::default();
     // Sound for the reasons that `thin` gives.
-    let number = unsafe {
+    unsafe {
         knob_discrepancy_coloring(
+            &mut colored,
             matrix.entries.as_ptr(),
             matrix.entries.len(),
             matrix.m,
@@ -30,7 +48,8 @@ pub fn discrepancy_coloring(columns: &[Vec<f64>], seed: u64) -> Result<Vec<i8>, 
             scratch.numbers.len(),
             scratch.indices.as_mut_ptr(),
             scratch.indices.len(),
-        )
-    };
-    Refusal::check(number).map(|()| output)
+        );
+    }
+    Refusal::check(colored.number)?;
+    Ok(Coloring { signs: output, directions: colored.directions as usize, sweeps: colored.sweeps as usize })
 }

@@ -60,7 +60,7 @@ mod refusal;
 pub mod sparsification;
 mod thinning;
 
-pub use coloring::discrepancy_coloring;
+pub use coloring::{color, discrepancy_coloring, Coloring};
 pub use lent::{MAX_COLUMNS, MAX_ROWS};
 pub use margins::{max_margin_change, turned_words};
 pub use moving::{moved, Moved};

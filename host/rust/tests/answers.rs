@@ -1,7 +1,8 @@
 //! The safe calls against the archive's own, bit for bit, and their answers against each other.
 
 use knobthistle::{
-    discrepancy_coloring, max_margin_change, sparsification, sparsify, sparsify_within, thin, turned_words, Job, Rule, Thinned,
+    color, discrepancy_coloring, max_margin_change, sparsification, sparsify, sparsify_within, thin, turned_words, Coloring, Job, Rule,
+    Thinned,
 };
 
 /// The archive's answer, declared as C has it.
@@ -14,6 +15,15 @@ struct Answer {
     change: f64,
     path_nonzeros: [u64; 9],
     path_change: [f64; 9],
+}
+
+/// And its answer to a colouring.
+#[cfg(target_arch = "x86_64")]
+#[repr(C)]
+struct Colored {
+    number: u64,
+    directions: u64,
+    sweeps: u64,
 }
 
 #[cfg(target_arch = "x86_64")]
@@ -31,7 +41,7 @@ extern "C" {
     fn knob_discrepancy_coloring(
         matrix: *const f64, matrix_length: usize, m: usize, n: usize, seed: u64, output: *mut i8, output_length: usize, numbers: *mut f64,
         numbers_length: usize, indices: *mut u32, indices_length: usize,
-    ) -> u64;
+    ) -> Colored;
 }
 
 /// The archive's answer to a job, with scratch full of noise.
@@ -114,7 +124,7 @@ fn colorings_equal_direct_calls() {
         let mut output = vec![9; m];
         let (mut numbers, mut indices) = (vec![1.0; m * (n + 1) + m * m + 16 * m + 8 * (n + 1)], vec![1; 8 * (m + n + 1)]);
         let (first, second) = (numbers.as_mut_ptr(), indices.as_mut_ptr());
-        let number = unsafe {
+        let colored = unsafe {
             knob_discrepancy_coloring(
                 matrix.as_ptr(),
                 m * n,
@@ -129,8 +139,11 @@ fn colorings_equal_direct_calls() {
                 indices.len(),
             )
         };
-        assert_eq!(number, 0);
-        assert_eq!(discrepancy_coloring(&columns, seed), Ok(output));
+        assert_eq!(colored.number, 0);
+        assert!(colored.directions <= 2 * m as u64 && (1..=100).contains(&colored.sweeps));
+        assert_eq!(discrepancy_coloring(&columns, seed).as_ref(), Ok(&output));
+        let (directions, sweeps) = (colored.directions as usize, colored.sweeps as usize);
+        assert_eq!(color(&columns, seed), Ok(Coloring { signs: output, directions, sweeps }));
     }
 }
 

@@ -11,6 +11,8 @@ pub struct Seen {
     /// How many directions were drawn, and the largest entry of one.
     pub directions: u64,
     pub largest: f64,
+    /// How many sweeps local search made.
+    pub sweeps: u64,
 }
 
 /// The panic of a colouring that drew far more directions than one that freezes a coordinate a step can.
@@ -71,6 +73,12 @@ pub fn directed(g: &[f64]) {
     let largest = g.iter().fold(seen.largest, |most, x| most.max(x.abs()));
     SEEN.set(Seen { directions: seen.directions + 1, largest, ..seen });
     numbers(g);
+}
+
+/// Local search sweeps.
+pub fn sweep() {
+    let seen = SEEN.get();
+    SEEN.set(Seen { sweeps: seen.sweeps + 1, ..seen });
 }
 
 /// What is left of a phase may be rounded.
