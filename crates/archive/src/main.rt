@@ -1,5 +1,6 @@
 // Replays an archive of 37 jobs: number, stage, nonzero entries, change, path and weights of each, doubles in hexadecimal. The file stdout
-// holds what the original answers for them, but for the last, whose allowance is infinite and which is refused. Entries and weights are made by the generator from the job's seed.
+// holds what the original answers for them, but for the last, whose allowance is infinite and which is refused. Entries and weights are
+// made by the generator from the job's seed.
 use draw::SplitMix64;
 use report::print_answer;
 use report::print_path;
@@ -329,7 +330,8 @@ fn entry_of(kind: u64, u: f64) -> f64 {
     }
 }
 
-// A weight by its kind: 0 always 1, 1 in [0, 1], 2 of either sign, 3 4 or the smallest subnormal, 4 spread over many sizes, and else often 0.
+// A weight by its kind: 0 always 1, 1 in [0, 1], 2 of either sign, 3 4 or the smallest subnormal, 4 spread over many sizes, and else
+// often 0.
 fn weight_of(kind: u64, u: f64) -> f64 {
     if kind == 0 {
         return 1.0;

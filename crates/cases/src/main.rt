@@ -1,5 +1,5 @@
-// Runs the worked cases of document 01 that are not proved in one table, and some jobs that the generator makes. A line holds the case, what is asked,
-// then of a thinning the number, the stage, the nonzero entries and the change, and at its end what document 01 expects.
+// Runs the worked cases of document 01 that are not proved in one table, and some jobs that the generator makes. A line holds the case,
+// what is asked, then of a thinning the number, the stage, the nonzero entries and the change, and at its end what document 01 expects.
 use discrepancy::discrepancy_coloring;
 use draw::SplitMix64;
 use report::print_answer;

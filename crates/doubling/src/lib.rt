@@ -1,4 +1,4 @@
-// What a halving does beside the colouring: the indices that remain, their scales, the colour of at most half, and the weights that are doubled.
+// What a halving does beside the colouring: the indices that remain, their scales, the colour of at most half, and the doubled weights.
 ghost use mathlib.Core.Path.{_≡_};
 ghost use Prim.Native.Nat.{_≤_};
 ghost use lib.ListN.{length};

@@ -21,7 +21,8 @@ use Rattle.doubling.specs.Doubling.{remaining, scaleAt, sigmaOf, halvedTo}
 use Rattle.halve.specs.Halve.{scaledColumns, halvedOnce}
 use Rattle.halve.specs.Handed.{halvesOf, HalvedBy}
 
-module _ (u : List Float) (n : ℕ) (w : List Float) (ω : Float) (r : List ℕ) (whole : length u ≡ length w * n) (inside : (p : ℕ) → p < length r → getD r p 0 < length w) where
+module _ (u : List Float) (n : ℕ) (w : List Float) (ω : Float) (r : List ℕ) (whole : length u ≡ length w * n)
+    (inside : (p : ℕ) → p < length r → getD r p 0 < length w) where
   abbrev scales : List Float
   scales = tabulate (scaleAt w ω r) (length r)
 
@@ -41,7 +42,8 @@ module _ (u : List Float) (n : ℕ) (w : List Float) (ω : Float) (r : List ℕ)
           let under : n ≤ i = omega arith in
           entry-under u n r scales p i (column-inside p l) under ∙ rw (le-ltb i n under, own)
 
-  pub colours-same : (rng : ℕ) → coloringOf plusZero (entryOf u n r scales) (length r) (n + 1) rng ≡ coloringOf plusZero (scaledColumns (columnsOf u n) n w ω r) (length r) (suc n) rng
+  pub colours-same : (rng : ℕ) → coloringOf plusZero (entryOf u n r scales) (length r) (n + 1) rng ≡ coloringOf plusZero
+      (scaledColumns (columnsOf u n) n w ω r) (length r) (suc n) rng
   colours-same rng = rw (add-one n) (coloring-same (entryOf u n r scales) (scaledColumns (columnsOf u n) n w ω r) (length r) (suc n) entry-same plusZero rng)
 
   -- the halving by these colours, from what each call ensures
@@ -50,7 +52,8 @@ module _ (u : List Float) (n : ℕ) (w : List Float) (ω : Float) (r : List ℕ)
       → s ≡ coloringOf plusZero (entryOf u n r scale) (length r) rows rng .rng → sigma ≡ sigmaOf x → v ≡ halvedTo w r x sigma (length r)
       → HalvedBy (coloringOf plusZero (scaledColumns (columnsOf u n) n w ω r) (length r) (suc n) rng) w r v s
   halved-by rng scale x rows sigma v s es er ex eg ec ev =
-      let same : coloringOf plusZero (entryOf u n r scale) (length r) rows rng ≡ coloringOf plusZero (scaledColumns (columnsOf u n) n w ω r) (length r) (suc n) rng =
+      let same : coloringOf plusZero (entryOf u n r scale) (length r) rows rng ≡ coloringOf plusZero
+      (scaledColumns (columnsOf u n) n w ω r) (length r) (suc n) rng =
       rw (es, er) (colours-same rng) in
       record {
         weights = ev ∙ ap (λ t. halvedTo w r x t (length r)) ec ∙ ap (λ y. halvedTo w r y (sigmaOf y) (length r)) (ex ∙ ap (λ c. c .x) same);

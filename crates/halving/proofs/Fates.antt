@@ -106,9 +106,12 @@ module _ (z : Float) (u : ℕ → ℕ → Float) (n : ℕ) (ω : Float) (rest : 
     within : (p : ℕ) → p < length (remaining (h .w) rest) → getD (remaining (h .w) rest) p 0 < length (h .w)
     within p l = let a = every-at those p l .1 in rw (← a .there) (inside (a .place) (a .under))
 
-    pub fate-once : (j : ℕ) → Fate (h .w) (remaining (h .w) rest) coloursOf (sigmaOf coloursOf) (length (remaining (h .w) rest)) j (at (halvedOnce z u n ω rest h .w) j)
+    pub fate-once : (j : ℕ) → Fate (h .w) (remaining (h .w) rest) coloursOf (sigmaOf coloursOf) (length (remaining (h .w) rest)) j
+        (at (halvedOnce z u n ω rest h .w) j)
     fate-once j =
-        rw halved-is (fate (h .w) (remaining (h .w) rest) coloursOf (sigmaOf coloursOf) (distinct-those (isOn (h .w)) d (length rest) (omega arith)) within (length (remaining (h .w) rest)) (omega arith) j)
+        rw halved-is (fate (h .w) (remaining (h .w) rest) coloursOf (sigmaOf coloursOf)
+        (distinct-those (isOn (h .w)) d (length rest) (omega arith)) within (length (remaining (h .w) rest)) (omega arith)
+        j)
 
     pub moved-once : (j : ℕ) → Moved (h .w) rest j (at (halvedOnce z u n ω rest h .w) j)
     moved-once j = go (fate-once j)

@@ -37,7 +37,8 @@ use Rattle.halving.proofs.Rest.{length-ranked, ranked-on, length-rest, 
 use Rattle.halving.proofs.Fates.{Among, Fate, untouched, touched, coloursOf, fate-once}
 use Rattle.halving.proofs.Minority.{lone}
 use Rattle.halving.proofs.Zeros.{zero-over-is, off-zero, plus-zero-off, sound-above, sound-finite}
-use Rattle.halving.proofs.Fewer.{never, first, second, sum, long-first, long-second, length-pass, pass-at, off-stays, pass-off, whole-rest, l1-is, heaviest-stays, sum-sound}
+use Rattle.halving.proofs.Fewer.{never, first, second, sum, long-first, long-second, length-pass, pass-at, off-stays, pass-off}
+use Rattle.halving.proofs.Fewer.{whole-rest, l1-is, heaviest-stays, sum-sound}
 use Rattle.halving.proofs.Holding.{has-among, has-those}
 use Rattle.halving.proofs.Quarter.{half-left}
 use Rattle.halving.proofs.Heaviest.{ranked-has, ranked-largest, one-largest}
@@ -87,7 +88,8 @@ module _ (u : ℕ → ℕ → Float) (n : ℕ) (h : Halved) (some : 2 ≤ nonzer
   -- what the first halving makes of a weight of the rest
   first-is : (p : ℕ) → p < length others → at once (getD others p 0) ≡ pick (eq (at x p) (sigmaOf x)) (mul binary64 two (at (h .w) (getD others p 0))) plusZero
   first-is p l =
-      go (rw (whole-rest plusZero u n h some) at (fate-once plusZero u n (omegaOf (h .w)) others h (rest-distinct (h .w)) (λ q k. rest-on (h .w) q k .below) (getD others p 0)))
+      go (rw (whole-rest plusZero u n h some) at (fate-once plusZero u n (omegaOf (h .w)) others h (rest-distinct (h .w))
+      (λ q k. rest-on (h .w) q k .below) (getD others p 0)))
     where
       j : ℕ
       j = getD others p 0
@@ -99,7 +101,12 @@ module _ (u : ℕ → ℕ → Float) (n : ℕ) (h : Halved) (some : 2 ≤ nonzer
   -- at most one is left
   one-left : length (remaining once others) ≤ 1
   one-left =
-      omega (arith, half-left plusZero u n (omegaOf (h .w)) others h (rest-distinct (h .w)) (λ p l. rest-on (h .w) p l .below), ap length (whole-rest plusZero u n h some), at-most-three)
+      omega (
+        arith,
+        half-left plusZero u n (omegaOf (h .w)) others h (rest-distinct (h .w)) (λ p l. rest-on (h .w) p l .below),
+        ap length (whole-rest plusZero u n h some),
+        at-most-three,
+      )
 
   module _ (ends : (j : ℕ) → j < length (h .w) → Finite binary64 (at (h .w) j)) where
     -- one that it does not leave is +0.0
@@ -107,7 +114,8 @@ module _ (u : ℕ → ℕ → Float) (n : ℕ) (h : Halved) (some : 2 ≤ nonzer
     first-gone p l o = go (eq (at x p) (sigmaOf x)) (first-is p l)
       where
         go : (t : Bool) → at once (getD others p 0) ≡ pick t (mul binary64 two (at (h .w) (getD others p 0))) plusZero → at once (getD others p 0) ≡ plusZero
-        go true e = let r = rest-on (h .w) p l in absurd (never (twice-on (at (h .w) (getD others p 0)) (ends (getD others p 0) (r .below)) (r .on)) (rw e at o))
+        go true e = let r = rest-on (h .w) p l in absurd
+            (never (twice-on (at (h .w) (getD others p 0)) (ends (getD others p 0) (r .below)) (r .on)) (rw e at o))
         go false e = e
 
     -- after the second all of the rest are +0.0
@@ -153,7 +161,12 @@ module _ (u : ℕ → ℕ → Float) (n : ℕ) (h : Halved) (some : 2 ≤ nonzer
 
         go : (p : ℕ) → p < length (ranked (h .w)) → getD (ranked (h .w)) p 0 ≡ j → Among (drop (keptCount (length (ranked (h .w)))) (ranked (h .w))) j
         go zero k e = absurd (d (sym e))
-        go (suc p) k e = rw one (record { place = p; under = rw (length-drop 1 (ranked (h .w))) (omega arith); there = getD-drop 1 (ranked (h .w)) p 0 ∙ ap (λ i. getD (ranked (h .w)) i 0) (let s : 1 + p ≡ suc p = omega arith in s) ∙ e })
+        go (suc p) k e = rw one (record {
+          place = p;
+          under = rw (length-drop 1 (ranked (h .w))) (omega arith);
+          there = getD-drop 1 (ranked (h .w)) p 0 ∙ ap (λ i. getD (ranked (h .w)) i 0)
+              (let s : 1 + p ≡ suc p = omega arith in s) ∙ e;
+        })
 
     others-gone : (j : ℕ) → j < length (h .w) → isOn (h .w) j ≡ true → (j ≡ top → ⊥) → at twice j ≡ plusZero
     others-gone j l o d = let a = others-have j l o d in rw (a .there) at (rest-gone (a .place) (a .under))
@@ -201,7 +214,8 @@ module _ (u : ℕ → ℕ → Float) (n : ℕ) (h : Halved) (some : 2 ≤ nonzer
     top-one =
         let t : ℕ = top (normal .ends) in
         let p : Finite binary64 (at (h .w) t) = normal .ends t (top-under (normal .ends)) in
-        let m : 0 < mag binary64 (at (h .w) t) = ltb-true 0 (mag binary64 (at (h .w) t)) (sym (nonzero-is (finite-number p)) ∙ sym (ap (ne (at (h .w) t)) nought-is) ∙ top-on) in
+        let m : 0 < mag binary64 (at (h .w) t) = ltb-true 0 (mag binary64 (at (h .w) t))
+        (sym (nonzero-is (finite-number p)) ∙ sym (ap (ne (at (h .w) t)) nought-is) ∙ top-on) in
         pass-at plusZero u n h t (top-under (normal .ends))
         ∙ ap (λ v. div binary64 v (sum plusZero u n h)) (top-stays (normal .ends))
         ∙ ap (div binary64 (at (h .w) t)) (sum-is (normal .ends))

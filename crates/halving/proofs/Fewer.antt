@@ -139,7 +139,9 @@ module _ (z : Float) (u : ℕ → ℕ → Float) (n : ℕ) (h : Halved) where
         go : Fate (h .w) r x (sigmaOf x) (length r) j (at (first .w) j) → Gone
         go (untouched m e) = absurd (m (lost .place) (lost .under) refl)
         go (touched q l e v) =
-            let same : q ≡ lost .place = distinct-at (distinct-those (isOn (h .w)) (rest-distinct (h .w)) (length (restOf (h .w))) (omega arith)) q (lost .place) l (lost .under) e in
+            let same : q ≡ lost .place = distinct-at
+            (distinct-those (isOn (h .w)) (rest-distinct (h .w)) (length (restOf (h .w))) (omega arith)) q (lost .place) l
+            (lost .under) e in
             record { index = j; was = of-rest r whole-rest (lost .place) (lost .under); is = v ∙ put q same }
 
     -- a pass leaves strictly fewer
@@ -161,7 +163,8 @@ module _ (z : Float) (u : ℕ → ℕ → Float) (n : ℕ) (h : Halved) where
 -- what two halvings make of a weight
 both-moves : (w v : List Float) (rest : List ℕ) (j : ℕ) (y : Float) → Moved w rest j (at v j) → Moved v rest j y → Turned binary64 (at w j) y
 both-moves w v rest j y (stays e) (stays g) = subst (Turned binary64 (at w j)) (sym (g ∙ e)) kept
-both-moves w v rest j y (stays e) (doubled o a g) = subst (Turned binary64 (at w j)) (sym (g ∙ ap (mul binary64 two) e ∙ ap (λ t. mul binary64 t (at w j)) twice-is)) once
+both-moves w v rest j y (stays e) (doubled o a g) = subst (Turned binary64 (at w j))
+    (sym (g ∙ ap (mul binary64 two) e ∙ ap (λ t. mul binary64 t (at w j)) twice-is)) once
 both-moves w v rest j y (doubled p b e) (stays g) = subst (Turned binary64 (at w j)) (sym (g ∙ e ∙ ap (λ t. mul binary64 t (at w j)) twice-is)) once
 both-moves w v rest j y (doubled p b e) (doubled o a g) =
     subst (Turned binary64 (at w j)) (sym (g ∙ ap (mul binary64 two) e ∙ ap (λ t. mul binary64 t (mul binary64 t (at w j))) twice-is)) again
@@ -201,7 +204,8 @@ module _ (u : ℕ → ℕ → Float) (n : ℕ) (h : Halved) (some : 2 ≤ nonzer
   pass-step =
       record {
         turned = at (second plusZero u n h .w);
-        each = λ j l. both-moves (h .w) (first plusZero u n h .w) (restOf (h .w)) j (at (second plusZero u n h .w) j) (moved-first plusZero u n h j) (moved-second plusZero u n h j);
+        each = λ j l. both-moves (h .w) (first plusZero u n h .w) (restOf (h .w)) j (at (second plusZero u n h .w) j)
+            (moved-first plusZero u n h j) (moved-second plusZero u n h j);
         keeps = top;
         inside = top-on .below;
         kept-as = heaviest-stays plusZero u n h;
@@ -236,4 +240,5 @@ module _ (u : ℕ → ℕ → Float) (n : ℕ) (h : Halved) (some : 2 ≤ nonzer
     pass-same-sign j l o =
         let e = pass-step .divided j l in
         let t : T (nonzero (at after j)) = subst T (sym (ap (ne (at after j)) (sym nought-is) ∙ o)) tt in
-        rw e (pass-signs binary64 (length (h .w)) (at (h .w)) (pass-step .turned) normal (pass-step .each) (step-sum normal few pass-step) j l (subst (λ v. T (nonzero v)) e t))
+        rw e (pass-signs binary64 (length (h .w)) (at (h .w)) (pass-step .turned) normal (pass-step .each)
+        (step-sum normal few pass-step) j l (subst (λ v. T (nonzero v)) e t))

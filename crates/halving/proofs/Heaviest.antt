@@ -1,4 +1,5 @@
--- The first of the ranking is the largest weight by magnitude, of equal ones the first, and there is one largest only: by heights and indices the order is total.
+-- The first of the ranking is the largest weight by magnitude, of equal ones the first, and there is one largest only: by heights and indices the order is
+-- total.
 use borrow.Author.Tests.{ltb-true, ltb-false, lt-ltb, le-ltb}
 use Prim.Native.Nat.{ℕ, zero, suc, _≤_, _<_}
 use mathlib.Core.Path.{_≡_, refl, sym, _∙_}
@@ -77,7 +78,8 @@ led-at : {b : ℕ → ℕ → Bool} {xs : List ℕ} → Led b xs → (p : ℕ) �
 led-at empty p l = absurd (omega arith)
 led-at (leads a) p l = every-at a p (omega arith)
 
-module _ (b : ℕ → ℕ → Bool) (through : (x y z : ℕ) → b x y ≡ true → b y z ≡ true → b x z ≡ true) (total : (x y : ℕ) → (x ≡ y → ⊥) → b x y ≡ false → b y x ≡ true) where
+module _ (b : ℕ → ℕ → Bool) (through : (x y z : ℕ) → b x y ≡ true → b y z ≡ true → b x z ≡ true)
+    (total : (x y : ℕ) → (x ≡ y → ⊥) → b x y ≡ false → b y x ≡ true) where
   led-put : (x : ℕ) {ys : List ℕ} → Fresh x ys → Led b ys → Led b (putIn b x ys)
   unfolding putIn
   led-put x none empty = leads none

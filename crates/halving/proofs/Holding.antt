@@ -95,7 +95,8 @@ has-those f xs (suc k) p l e = go (f (getD xs k 0)) refl (ℕ-discrete p k) (has
         → Has (getD xs p 0) (pick t (thoseTo f xs k ++ (getD xs k 0 ∷ [])) (thoseTo f xs k))
     go true g (yes s) r = rw s (has-last (getD xs k 0) (thoseTo f xs k))
     go true g (no s) r = has-end (getD xs k 0) (r (omega arith) e)
-    go false g (yes s) r = let u : _≡_ {A = Bool} true false = sym e ∙ ap (λ (i : ℕ). f (getD xs i 0)) s ∙ g in let z : _≡_ {A = ℕ} 0 1 = cc in absurd (omega arith)
+    go false g (yes s) r = let u : _≡_ {A = Bool} true false = sym e ∙ ap (λ (i : ℕ). f (getD xs i 0)) s ∙ g in let z : _≡_
+        {A = ℕ} 0 1 = cc in absurd (omega arith)
     go false g (no s) r = r (omega arith) e
 
 -- as many as pass
@@ -105,7 +106,8 @@ length-those f xs zero = refl
 length-those f xs (suc k) = go (f (getD xs k 0)) (length-those f xs k)
   where
     go : (t : Bool) → length (thoseTo f xs k) ≡ count (λ p. f (getD xs p 0)) k
-        → length (pick t (thoseTo f xs k ++ (getD xs k 0 ∷ [])) (thoseTo f xs k)) ≡ pick t (suc (count (λ p. f (getD xs p 0)) k)) (count (λ p. f (getD xs p 0)) k)
+        → length (pick t (thoseTo f xs k ++ (getD xs k 0 ∷ [])) (thoseTo f xs k)) ≡ pick t (suc (count (λ p. f (getD xs p 0)) k))
+        (count (λ p. f (getD xs p 0)) k)
     go true e = rw length-append (omega arith)
     go false e = e
 

@@ -94,7 +94,8 @@ at-most-half {k} {x} c = go (leb (2 * count up (length x)) (length x)) refl
 
     go : (t : Bool) → leb (2 * count up (length x)) (length x) ≡ t → 2 * count (λ p. eq (at x p) (pick t one minusOne)) k ≤ k
     go true e =
-        let n : count (λ p. eq (at x p) one) k ≤ count up k = count-le (λ p. eq (at x p) one) up k (λ p l h. subst T (sym (is-one (c .each p l) (shown (eq (at x p) one) h))) tt) in
+        let n : count (λ p. eq (at x p) one) k ≤ count up k = count-le (λ p. eq (at x p) one) up k
+        (λ p l h. subst T (sym (is-one (c .each p l) (shown (eq (at x p) one) h))) tt) in
         let l : 2 * count up k ≤ k = rw (c .long) at (leb-true (2 * count up (length x)) (length x) e) in
         omega arith
     go false e =

@@ -30,7 +30,8 @@ use Rattle.halving.proofs.Fewer.{never, true-of, zero-stays, first, sec
 use Rattle.halving.proofs.Holding.{Has, has-among, has-at, has-left, has-right, has-those, length-those, no-longer}
 use Rattle.halving.proofs.Heaviest.{ranked-has}
 
-module _ (z : Float) (u : ℕ → ℕ → Float) (n : ℕ) (ω : Float) (rest : List ℕ) (h : Halved) (d : Distinct rest) (inside : (p : ℕ) → p < length rest → getD rest p 0 < length (h .w)) where
+module _ (z : Float) (u : ℕ → ℕ → Float) (n : ℕ) (ω : Float) (rest : List ℕ) (h : Halved) (d : Distinct rest)
+    (inside : (p : ℕ) → p < length rest → getD rest p 0 < length (h .w)) where
   -- those that remain, their colours, and the weights after the halving
   abbrev r : List ℕ
   r = remaining (h .w) rest
@@ -96,14 +97,18 @@ module _ (z : Float) (u : ℕ → ℕ → Float) (n : ℕ) (h : Halved) where
   unfolding restOf
   left-has j l o = go (isOn (h .w) j) refl
     where
-      place : (p : ℕ) → p < length (ranked (h .w)) → getD (ranked (h .w)) p 0 ≡ j → Dec (p < some-kept) → Has j (take some-kept (ranked (h .w)) ++ remaining twice others)
+      place : (p : ℕ) → p < length (ranked (h .w)) → getD (ranked (h .w)) p 0 ≡ j → Dec (p < some-kept) → Has j
+          (take some-kept (ranked (h .w)) ++ remaining twice others)
       place p k e (yes s) =
           has-left (remaining twice others)
-          (rw (getD-take some-kept (ranked (h .w)) p 0 s ∙ e) at (has-at (take some-kept (ranked (h .w))) p (rw (length-take-le some-kept (ranked (h .w)) (omega arith)) s)))
+          (rw (getD-take some-kept (ranked (h .w)) p 0 s ∙ e) at
+          (has-at (take some-kept (ranked (h .w))) p (rw (length-take-le some-kept (ranked (h .w)) (omega arith)) s)))
       place p k e (no s) =
           let q : ℕ = p - some-kept in
-          let f : getD others q 0 ≡ j = getD-drop some-kept (ranked (h .w)) q 0 ∙ ap (λ i. getD (ranked (h .w)) i 0) (let g : some-kept + q ≡ p = omega arith in g) ∙ e in
-          has-right (take some-kept (ranked (h .w))) (rw f at (has-those (isOn twice) others (length others) q (rw (length-drop some-kept (ranked (h .w))) (omega arith)) (rw f o)))
+          let f : getD others q 0 ≡ j = getD-drop some-kept (ranked (h .w)) q 0 ∙ ap (λ i. getD (ranked (h .w)) i 0)
+          (let g : some-kept + q ≡ p = omega arith in g) ∙ e in
+          has-right (take some-kept (ranked (h .w))) (rw f at (has-those (isOn twice) others (length others) q
+          (rw (length-drop some-kept (ranked (h .w))) (omega arith)) (rw f o)))
 
       go : (t : Bool) → isOn (h .w) j ≡ t → Has j (take some-kept (ranked (h .w)) ++ remaining twice others)
       go false e = absurd (never o (rw (off-stays z u n h j e) e))
@@ -112,7 +117,9 @@ module _ (z : Float) (u : ℕ → ℕ → Float) (n : ℕ) (h : Halved) where
   kept-and-left : 2 ≤ nonzeros (h .w) → nonzeros twice ≤ keptCount (nonzeros (h .w)) + length (remaining twice others)
   kept-and-left some =
       let each : Every (λ j. Has j (take some-kept (ranked (h .w)) ++ remaining twice others)) (keep (isOn twice) (length twice)) =
-      every-of (keep (isOn twice) (length twice)) (λ p l. let g = keep-good (isOn twice) (length twice) p l in left-has (getD (keep (isOn twice) (length twice)) p 0) (subst (λ (k : ℕ). getD (keep (isOn twice) (length twice)) p 0 < k) (long-second z u n h) (g .1)) (g .0)) in
+      every-of (keep (isOn twice) (length twice)) (λ p l. let g = keep-good (isOn twice) (length twice) p l in left-has
+      (getD (keep (isOn twice) (length twice)) p 0)
+      (subst (λ (k : ℕ). getD (keep (isOn twice) (length twice)) p 0 < k) (long-second z u n h) (g .1)) (g .0)) in
       let a = no-longer (take some-kept (ranked (h .w)) ++ remaining twice others) (distinct-keep (isOn twice) (length twice)) each in
       let b = length-keep (isOn twice) (length twice) in
       let c = length-append (take some-kept (ranked (h .w))) (remaining twice others) in
@@ -129,7 +136,8 @@ module _ (z : Float) (u : ℕ → ℕ → Float) (n : ℕ) (h : Halved) where
       let b = half-left z u n (omegaOf (h .w)) others (first z u n h) (rest-distinct (h .w)) (λ p l. rw (long-first z u n h) (rest-on (h .w) p l .below)) in
       let c : length (remaining (h .w) others) ≡ length others = ap length (whole-rest z u n h some) in
       let d : length others ≡ nonzeros (h .w) - keptCount (nonzeros (h .w)) = length-rest (h .w) in
-      let e : nonzeros (passOf z u n h .w) ≤ nonzeros twice = rw (length-pass z u n h, long-second z u n h) (count-le (isOn (passOf z u n h .w)) (isOn twice) (length (h .w)) (λ j l t. stays j l t (isOn twice j) refl)) in
+      let e : nonzeros (passOf z u n h .w) ≤ nonzeros twice = rw (length-pass z u n h, long-second z u n h)
+      (count-le (isOn (passOf z u n h .w)) (isOn twice) (length (h .w)) (λ j l t. stays j l t (isOn twice j) refl)) in
       omega (arith, a, b, c, d, e, kept-and-left some)
     where
       stays : (j : ℕ) → j < length (h .w) → T (isOn (passOf z u n h .w) j) → (t : Bool) → isOn twice j ≡ t → T t

@@ -26,7 +26,8 @@ module _ (w : List Float) where
   ranked-every : Every (On w) (ranked w)
   unfolding ranked
   ranked-every =
-      every-sorted (heavier w) (λ p. getD (support w) p 0) (length (support w)) (λ m l. record { on = keep-good (isOn w) (length w) m l .0; below = keep-good (isOn w) (length w) m l .1 })
+      every-sorted (heavier w) (λ p. getD (support w) p 0) (length (support w))
+      (λ m l. record { on = keep-good (isOn w) (length w) m l .0; below = keep-good (isOn w) (length w) m l .1 })
 
   -- each index of the ranking is of a weight that is not 0
   pub ranked-on : (p : ℕ) → p < length (ranked w) → On w (getD (ranked w) p 0)

@@ -109,34 +109,38 @@ doubles-of a b p q zero = p
 doubles-of a b p q (suc zero) = q
 doubles-of a b p q (suc (suc j)) = unfold fits in tt
 
-module _ (a b : Float) (start : List Float) (is : normalized plusZero (a ∷ b ∷ []) ≡ start) (doubles : Doubles (a ∷ b ∷ [])) (sound : valueFault matrix (a ∷ b ∷ []) ≡ 0) where
+module _ (a b : Float) (start : List Float) (is : normalized plusZero (a ∷ b ∷ []) ≡ start) (doubles : Doubles (a ∷ b ∷ []))
+    (sound : valueFault matrix (a ∷ b ∷ []) ≡ 0) where
   normal-of : Normal binary64 (length start) (at start)
   normal-of = let v = values-good matrix (a ∷ b ∷ []) sound in rw is at (normal-start (a ∷ b ∷ []) doubles (v .ends) (v .total))
 
   -- a job that stops at stage k, where the weights are v
   module _ (rule : Rule) (k : ℕ) (v : List Float) (ruled : ruleFault rule ≡ 0)
-      (stop : (seed : ℕ) → Normal binary64 (length start) (at start) → FirstStop plusZero columns 2 start seed rule k × (stageOf plusZero columns 2 start seed k .w ≡ v)) where
-    answers : (seed : ℕ) (output numbers : List Float) (indices : List ℕ) (r : Answer) (output' numbers' : List Float) (indices' : List ℕ)
-        → Room 2 2 output numbers indices → Thinned rule seed matrix 2 2 (a ∷ b ∷ []) output numbers indices r output' numbers' indices'
-        → (r ≡ answerAt columns 2 start seed k) × (output' ≡ v)
-    answers seed output numbers indices r output' numbers' indices' room job =
-        let s = stop seed normal-of in
-        let f = fault-is rule a b output numbers indices ruled room ∙ sound in
-        let t = settled job doubles f k (subst (λ x. FirstStop plusZero columns 2 x seed rule k) (sym is) (s .0)) in (
-          t .0 ∙ ap (λ x. answerAt columns 2 x seed k) is,
-          t .1 ∙ ap (λ x. stageOf plusZero columns 2 x seed k .w) is ∙ s .1,
-        )
+      (stop : (seed : ℕ) → Normal binary64 (length start) (at start)
+      → FirstStop plusZero columns 2 start seed rule k × (stageOf plusZero columns 2 start seed k .w ≡ v))
+    where
+      answers : (seed : ℕ) (output numbers : List Float) (indices : List ℕ) (r : Answer) (output' numbers' : List Float) (indices' : List ℕ)
+          → Room 2 2 output numbers indices → Thinned rule seed matrix 2 2 (a ∷ b ∷ []) output numbers indices r output' numbers' indices'
+          → (r ≡ answerAt columns 2 start seed k) × (output' ≡ v)
+      answers seed output numbers indices r output' numbers' indices' room job =
+          let s = stop seed normal-of in
+          let f = fault-is rule a b output numbers indices ruled room ∙ sound in
+          let t = settled job doubles f k (subst (λ x. FirstStop plusZero columns 2 x seed rule k) (sym is) (s .0)) in (
+            t .0 ∙ ap (λ x. answerAt columns 2 x seed k) is,
+            t .1 ∙ ap (λ x. stageOf plusZero columns 2 x seed k .w) is ∙ s .1,
+          )
 
-    called-so : {answer : Answer} → ((seed : ℕ) → Normal binary64 (length start) (at start) → answerAt columns 2 start seed k ≡ answer)
-        → called (a ∷ b ∷ []) (by rule) (λ output r output'. (r ≡ answer) × (output' ≡ v))
-    called-so e rule' seed output numbers indices r output' numbers' indices' c room job =
-        let t = answers seed output numbers indices r output' numbers' indices' room (rw c at job) in
-        (t .0 ∙ e seed normal-of, t .1)
+      called-so : {answer : Answer} → ((seed : ℕ) → Normal binary64 (length start) (at start) → answerAt columns 2 start seed k ≡ answer)
+          → called (a ∷ b ∷ []) (by rule) (λ output r output'. (r ≡ answer) × (output' ≡ v))
+      called-so e rule' seed output numbers indices r output' numbers' indices' c room job =
+          let t = answers seed output numbers indices r output' numbers' indices' room (rw c at job) in
+          (t .0 ∙ e seed normal-of, t .1)
 
 at-0 : {start : List Float} {seed : ℕ} {rule : Rule} → stops plusZero columns 2 start seed rule 0 ≡ true → FirstStop plusZero columns 2 start seed rule 0
 at-0 h = record { there = h; before = λ i l. absurd (omega arith) }
 
-at-1 : {start : List Float} {seed : ℕ} {rule : Rule} → stops plusZero columns 2 start seed rule 0 ≡ false → stops plusZero columns 2 start seed rule 1 ≡ true → FirstStop plusZero columns 2 start seed rule 1
+at-1 : {start : List Float} {seed : ℕ} {rule : Rule} → stops plusZero columns 2 start seed rule 0 ≡ false → stops plusZero columns
+    2 start seed rule 1 ≡ true → FirstStop plusZero columns 2 start seed rule 1
 at-1 g h = record { there = h; before = λ i l. let e : i ≡ 0 = omega arith in rw e g }
 
 -- ---- C1 to C3: weights 1 and 3
@@ -316,14 +320,20 @@ answer-tiny seed normal = rw (stage-0 lonely seed)
 case-6 : holds (thins (four ∷ smallest ∷ []) any (atOnce 1) lonely)
 case-6 rule seed output numbers indices r output' numbers' indices' c =
     called-so four smallest lonely start-tiny doubles-tiny sound-tiny rule 0 lonely c
-    (λ s n. (at-0 (first-holds (rests plusZero columns 2 lonely s rule 0) _ (few-rests plusZero columns 2 lonely s rule 0 c (omega (arith, lonely-one s)))), stage-0 lonely s))
+    (λ s n. (
+      at-0 (first-holds (rests plusZero columns 2 lonely s rule 0) _
+          (few-rests plusZero columns 2 lonely s rule 0 c (omega (arith, lonely-one s)))),
+      stage-0 lonely s,
+    ))
     answer-tiny rule seed output numbers indices r output' numbers' indices' refl
 
 -- ---- C7 and C14: refusals
 
 -- a job with a fault is refused by it, and its output stays
-refused : {rule : Rule} {seed : ℕ} {u : List Float} {m n : ℕ} {w output numbers : List Float} {indices : List ℕ} {r : Answer} {output' numbers' : List Float} {indices' : List ℕ} (k : ℕ)
-    → Thinned rule seed u m n w output numbers indices r output' numbers' indices' → jobFault rule u m n w (length output) (length numbers) (length indices) ≡ suc k
+refused : {rule : Rule} {seed : ℕ} {u : List Float} {m n : ℕ} {w output numbers : List Float} {indices : List ℕ} {r : Answer}
+    {output' numbers' : List Float} {indices' : List ℕ} (k : ℕ)
+    → Thinned rule seed u m n w output numbers indices r output' numbers' indices' → jobFault rule u m n w (length output)
+    (length numbers) (length indices) ≡ suc k
     → (r ≡ refusal (suc k)) × (output' ≡ output)
 refused {r = r} k job f =
     let e : r ≡ refusal (suc k) = rw (f, eqb·suc-zero k) at (job .answers) in
@@ -334,14 +344,16 @@ unfolding valueFault allTo l1Of sumFrom ofBits add le lt eq
 fault-7 = refl
 
 case-7 : holds (refuses (plusZero ∷ plusZero ∷ []) any 9)
-case-7 rule seed output numbers indices r output' numbers' indices' c room job = refused 8 job (fault-is rule plusZero plusZero output numbers indices c room ∙ fault-7)
+case-7 rule seed output numbers indices r output' numbers' indices' c room job = refused 8 job
+    (fault-is rule plusZero plusZero output numbers indices c room ∙ fault-7)
 
 fault-14 : (u : List Float) (m n : ℕ) (w : List Float) (output numbers indices : ℕ) → jobFault (Within nan (AtMost 0)) u m n w output numbers indices ≡ 1
 unfolding jobFault ofBits le lt eq
 fault-14 u m n w output numbers indices = refl
 
 case-14 : holds (refusesRule (Within nan (AtMost 0)) 1)
-case-14 seed u m n weights output numbers indices r output' numbers' indices' job = refused 0 job (fault-14 u m n weights (length output) (length numbers) (length indices))
+case-14 seed u m n weights output numbers indices r output' numbers' indices' job = refused 0 job
+    (fault-14 u m n weights (length output) (length numbers) (length indices))
 
 -- ---- C10 and C11: draws
 
@@ -361,15 +373,20 @@ case-11-below word e = ap uniformAt e ∙ largest .1
 
 pub starred : hold table
 starred = (
-  called-so one three shares start-13 doubles-13 sound-13 (Within half Absent) 1 (plusZero ∷ one ∷ []) ruled-1 (λ s n. (at-1 (goes-1 s n) (stops-1 s n), next-13 s n)) answer-13,
+  called-so one three shares start-13 doubles-13 sound-13 (Within half Absent) 1 (plusZero ∷ one ∷ []) ruled-1
+      (λ s n. (at-1 (goes-1 s n) (stops-1 s n), next-13 s n)) answer-13,
   (
-    called-so one three shares start-13 doubles-13 sound-13 (Within underHalf Absent) 0 shares ruled-2 (λ s n. (at-0 (stops-2 s n), stage-0 shares s)) answer-13-first,
+    called-so one three shares start-13 doubles-13 sound-13 (Within underHalf Absent) 0 shares ruled-2
+        (λ s n. (at-0 (stops-2 s n), stage-0 shares s)) answer-13-first,
     (
-      called-so one three shares start-13 doubles-13 sound-13 (Within plusZero (AtMost 1)) 1 (plusZero ∷ one ∷ []) ruled-3 (λ s n. (at-1 (goes-3 s n) (stops-3 s n), next-13 s n)) answer-13,
+      called-so one three shares start-13 doubles-13 sound-13 (Within plusZero (AtMost 1)) 1 (plusZero ∷ one ∷ []) ruled-3
+          (λ s n. (at-1 (goes-3 s n) (stops-3 s n), next-13 s n)) answer-13,
       (
-        called-so one one halves start-11 doubles-11 sound-11 (Target 1) 1 (one ∷ plusZero ∷ []) refl (λ s n. (at-1 (goes-4 s n) (stops-4 s n), next-11 s n)) answer-11,
+        called-so one one halves start-11 doubles-11 sound-11 (Target 1) 1 (one ∷ plusZero ∷ []) refl
+            (λ s n. (at-1 (goes-4 s n) (stops-4 s n), next-11 s n)) answer-11,
         (
-          called-so minusThree one signed start-31 doubles-31 sound-31 (Target 1) 1 (minusOne ∷ plusZero ∷ []) refl (λ s n. (at-1 (goes-5 s n) (stops-5 s n), next-31 s n)) answer-31,
+          called-so minusThree one signed start-31 doubles-31 sound-31 (Target 1) 1 (minusOne ∷ plusZero ∷ []) refl
+              (λ s n. (at-1 (goes-5 s n) (stops-5 s n), next-31 s n)) answer-31,
           (case-6, (case-7, (case-10, (case-11, (case-11-below, (answered, (case-14, tt))))))),
         ),
       ),

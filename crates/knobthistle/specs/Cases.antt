@@ -1,4 +1,5 @@
--- The starred cases of document 01, "Numbers to hold it to": one table, and what each row claims, in the words of the exported calls' promises.
+-- The starred cases of document 01, "Numbers to hold it to": one table, and what each row claims, in the words of the exported calls'
+-- promises.
 use Prim.Native.Nat.{ℕ, _-_, _/_, _^_, _≤_}
 use mathlib.Core.Path.{_≡_}
 use mathlib.Core.Bool.{true}
@@ -148,7 +149,8 @@ pub record Room (m n : ℕ) (output numbers : List Float) (indices : List ℕ) :
 -- whatever the seed and the scratch, a call on the matrix has an answer and an output of which P holds; P is told the output as it was lent
 abbrev pub called : List Float → Rules → (List Float → Answer → List Float → Type 0) → Type 0
 called weights rules P =
-    (rule : Rule) (seed : ℕ) (output numbers : List Float) (indices : List ℕ) (r : Answer) (output' numbers' : List Float) (indices' : List ℕ)
+    (rule : Rule) (seed : ℕ) (output numbers : List Float) (indices : List ℕ) (r : Answer)
+    (output' numbers' : List Float) (indices' : List ℕ)
     → covers rules rule → Room 2 2 output numbers indices
     → Thinned rule seed matrix 2 2 weights output numbers indices r output' numbers' indices'
     → P output r output'
@@ -157,7 +159,8 @@ abbrev pub holds : Case → Type 0
 holds (thins weights rules answer written) = called weights rules (λ output r output'. (r ≡ answer) × (output' ≡ written))
 holds (refuses weights rules number) = called weights rules (λ output r output'. (r ≡ refusal number) × (output' ≡ output))
 holds (refusesRule rule number) =
-    (seed : ℕ) (u : List Float) (m n : ℕ) (weights output numbers : List Float) (indices : List ℕ) (r : Answer) (output' numbers' : List Float) (indices' : List ℕ)
+    (seed : ℕ) (u : List Float) (m n : ℕ) (weights output numbers : List Float) (indices : List ℕ)
+    (r : Answer) (output' numbers' : List Float) (indices' : List ℕ)
     → Thinned rule seed u m n weights output numbers indices r output' numbers' indices'
     → (r ≡ refusal number) × (output' ≡ output)
 holds (draws state after output value) = (afterOf state ≡ after) × (outputOf state ≡ output) × (uniformOf (outputOf state) ≡ value)

@@ -78,7 +78,8 @@ pub extern "C" fn knob_max_margin_change(
     after: &[f64],
     change: &mut f64,
 ) -> u64
-    ensures { λ r. ⌜ (r ≡ changeAnswer (now (matrix .entry)) m n (now (before .entry)) (now (after .entry)) .number) × (now (change .exit) ≡ changeAnswer (now (matrix .entry)) m n (now (before .entry)) (now (after .entry)) .change) ⌝ }
+    ensures { λ r. ⌜ (r ≡ changeAnswer (now (matrix .entry)) m n (now (before .entry)) (now (after .entry)) .number)
+        × (now (change .exit) ≡ changeAnswer (now (matrix .entry)) m n (now (before .entry)) (now (after .entry)) .change) ⌝ }
 {
     let a = max_margin_change(matrix, m, n, before, after);
     *change = a.change;
@@ -96,7 +97,8 @@ pub extern "C" fn knob_turned_words(
     thresholds: &[f64],
     count: &mut u64,
 ) -> u64
-    ensures { λ r. ⌜ (r ≡ turnedAnswer (now (matrix .entry)) m n (now (before .entry)) (now (after .entry)) (now (thresholds .entry)) .number)
+    ensures { λ r. ⌜ (r
+        ≡ turnedAnswer (now (matrix .entry)) m n (now (before .entry)) (now (after .entry)) (now (thresholds .entry)) .number)
         × (now (count .exit) ≡ turnedAnswer (now (matrix .entry)) m n (now (before .entry)) (now (after .entry))
         (now (thresholds .entry)) .count) ⌝ }
 {
@@ -116,7 +118,8 @@ pub extern "C" fn knob_discrepancy_coloring(
     numbers: &mut [f64],
     indices: &mut [u32],
 ) -> Colored
-    ensures { λ r. ⌜ DiscrepancyColored (now (matrix .entry)) m n seed (now (output .entry)) (now (numbers .entry)) (now (indices .entry)) r (now (output .exit)) (now (numbers .exit)) (now (indices .exit)) ⌝ }
+    ensures { λ r. ⌜ DiscrepancyColored (now (matrix .entry)) m n seed (now (output .entry)) (now (numbers .entry))
+        (now (indices .entry)) r (now (output .exit)) (now (numbers .exit)) (now (indices .exit)) ⌝ }
 {
     discrepancy_coloring(matrix, m, n, seed, output, numbers, indices)
 }
@@ -134,7 +137,8 @@ pub extern "C" fn knob_sparsify(
     numbers: &mut [f64],
     indices: &mut [u32],
 ) -> Answer
-    ensures { λ r. ⌜ Thinned (Target target) seed (now (matrix .entry)) m n (now (weights .entry)) (now (output .entry)) (now (numbers .entry)) (now (indices .entry)) r (now (output .exit)) (now (numbers .exit)) (now (indices .exit)) ⌝ }
+    ensures { λ r. ⌜ Thinned (Target target) seed (now (matrix .entry)) m n (now (weights .entry)) (now (output .entry))
+        (now (numbers .entry)) (now (indices .entry)) r (now (output .exit)) (now (numbers .exit)) (now (indices .exit)) ⌝ }
 {
     sparsify(
         matrix,
@@ -175,7 +179,9 @@ pub extern "C" fn knob_sparsify_within(
     numbers: &mut [f64],
     indices: &mut [u32],
 ) -> Answer
-    ensures { λ r. ⌜ Thinned (Within allowance (capOf capped cap)) seed (now (matrix .entry)) m n (now (weights .entry)) (now (output .entry)) (now (numbers .entry)) (now (indices .entry)) r (now (output .exit)) (now (numbers .exit)) (now (indices .exit)) ⌝ }
+    ensures { λ r. ⌜ Thinned (Within allowance (capOf capped cap)) seed (now (matrix .entry)) m n (now (weights .entry))
+        (now (output .entry)) (now (numbers .entry)) (now (indices .entry)) r (now (output .exit)) (now (numbers .exit))
+        (now (indices .exit)) ⌝ }
 {
     sparsify_within(
         matrix,

@@ -24,7 +24,8 @@ impl Generator {
 
     // The next uniform draw, from 2^-54 up and at most 1.
     pub fn uniform(&mut self) -> f64
-        ensures { λ r. ⌜ (r ≡ uniformOf (outputOf (now (self .entry) .state))) × (now (self .exit) .state ≡ afterOf (now (self .entry) .state)) ⌝ }
+        ensures { λ r. ⌜ (r ≡ uniformOf (outputOf (now (self .entry) .state)))
+            × (now (self .exit) .state ≡ afterOf (now (self .entry) .state)) ⌝ }
     {
         let draw = SplitMix64 { state: self.state }.uniform();
         self.state = draw.rng.state;
@@ -33,7 +34,8 @@ impl Generator {
 
     // The next Gaussian draw.
     pub fn gaussian(&mut self) -> f64
-        ensures { λ r. ⌜ (r ≡ gaussianOf (now (self .entry) .state)) × (now (self .exit) .state ≡ afterGaussian (now (self .entry) .state)) ⌝ }
+        ensures { λ r. ⌜ (r ≡ gaussianOf (now (self .entry) .state))
+            × (now (self .exit) .state ≡ afterGaussian (now (self .entry) .state)) ⌝ }
     {
         let draw = SplitMix64 { state: self.state }.gaussian();
         self.state = draw.rng.state;

@@ -1,4 +1,5 @@
-// How far margins move between two weight vectors, and which words turn. Rows are taken 64 at a time, column by column, so that no scratch is needed.
+// How far margins move between two weight vectors, and which words turn. Rows are taken 64 at a time, column by column, so that no
+// scratch is needed.
 use ieee::abs;
 use ieee::larger;
 use limits::all_finite;

@@ -56,7 +56,13 @@ phaseOn z a l n fuel w = run (ended l) (furtherOn z a l n) fuel (record { more =
 -- what stands before phase i
 abbrev pub before : Float → (ℕ → ℕ → Float) → ℕ → ℕ → Generator → ℕ → Between
 before z a k n rng i =
-    run settled (phased z a k n) i (record { x = repeated plusZero k; free = repeated 1 k; ax = repeated plusZero n; rng = rng; directions = 0 })
+    run settled (phased z a k n) i (record {
+      x = repeated plusZero k;
+      free = repeated 1 k;
+      ax = repeated plusZero n;
+      rng = rng;
+      directions = 0;
+    })
 
 -- the columns that are free there
 abbrev pub columnsAt : ℕ → Between → List ℕ

@@ -1,4 +1,5 @@
-// When a job stops, what its rule is refused for and when its cap is met; below the tests of a job's arguments and below the stages, which both read it.
+// When a job stops, what its rule is refused for and when its cap is met; below the tests of a job's arguments and below the stages,
+// which both read it.
 use ieee::is_finite;
 ghost use mathlib.Core.Path.{_≡_};
 ghost use Rattle.rules.specs.Rules.{capFault, ruleFault, meets};

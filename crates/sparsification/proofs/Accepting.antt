@@ -106,10 +106,12 @@ positive : (m : ℕ) → eqb m 0 ≡ false → 0 < m
 positive zero h = never true refl h
 positive (suc m) h = omega arith
 
-pub sizes-good : (m n matrix weights output numbers indices : ℕ) → sizeFault m n matrix weights output numbers indices ≡ 0 → Sized m n matrix weights output numbers indices
+pub sizes-good : (m n matrix weights output numbers indices : ℕ) → sizeFault m n matrix weights output numbers indices ≡ 0 → Sized
+    m n matrix weights output numbers indices
 unfolding sizeFault
 sizes-good m n matrix weights output numbers indices h =
-    let a = go (tooLarge m n) (not (eqb matrix (m * n)) || (not (eqb weights m) || not (eqb output m))) (eqb m 0 || eqb n 0) (scratchShort m n numbers indices) h in
+    let a = go (tooLarge m n) (not (eqb matrix (m * n)) || (not (eqb weights m) || not (eqb output m))) (eqb m 0 || eqb n 0)
+    (scratchShort m n numbers indices) h in
     let b = neither (ltb 256 m) (ltb 4096 n) (a .0) in
     let c = neither (not (eqb matrix (m * n))) (not (eqb weights m) || not (eqb output m)) (a .1 .0) in
     let d = neither (not (eqb weights m)) (not (eqb output m)) (c .1) in

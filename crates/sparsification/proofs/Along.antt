@@ -1,4 +1,5 @@
--- One accepted job: it keeps what its rule asks for, and the path in its answer. There are at most nine stages, each pass leaves at most half of the nonzeros, rounded
+-- One accepted job: it keeps what its rule asks for, and the path in its answer. There are at most nine stages, each pass leaves at most half of the
+-- nonzeros, rounded
 -- down, so that they fall strictly, and the single fields are the returned stage's entry.
 use Prim.Native.Nat.{ℕ, suc, _*_, _≤_, _<_}
 use mathlib.Core.Path.{_≡_, sym, ap, _∙_}
@@ -51,7 +52,8 @@ module _ {rule : Rule} {seed : ℕ} {u : List Float} {m n : ℕ} {w output numbe
   -- stages 0 to 8
   pub at-most-nine : r .stage ≤ 8
   at-most-nine =
-      rw is (nine-stages (columnsOf u n) n start seed falls (start-few doubles fine) stop (leads plusZero (columnsOf u n) n start seed falls rule (fine .ruled)))
+      rw is (nine-stages (columnsOf u n) n start seed falls (start-few doubles fine) stop
+      (leads plusZero (columnsOf u n) n start seed falls rule (fine .ruled)))
 
   -- the single fields
   pub single-nonzeros : getD (r .«path_nonzeros») (r .stage) 0 ≡ r .nonzeros

@@ -54,7 +54,8 @@ right-number (fin s m e) (fin t k d) h = tt
 pub le-through : (x a b : Float) → T (fits binary64 x) → T (fits binary64 a) → T (fits binary64 b) → le a b ≡ true → le x a ≡ true → le x b ≡ true
 le-through x a b X A B h g =
     holds (le x b)
-    (le-transitive {f = binary64} {x = x} {y = a} {z = b} (record { held = X; num = left-number x a (shown (le x a) g) }) (record { held = A; num = left-number a b (shown (le a b) h) })
+    (le-transitive {f = binary64} {x = x} {y = a} {z = b} (record { held = X; num = left-number x a (shown (le x a) g) })
+    (record { held = A; num = left-number a b (shown (le a b) h) })
     (record { held = B; num = right-number a b (shown (le a b) h) }) (shown (le x a) g) (shown (le a b) h))
 
 -- a cap that is as tight is met only where the other is
@@ -80,12 +81,14 @@ among-trans e p q =
 
 module _ (z : Float) (u : ℕ → ℕ → Float) (n : ℕ) (start : List Float) (seed : ℕ) where
   -- a stage that measures above an allowance measures above a smaller one
-  pub above-less : (a b : Float) (i : ℕ) → T (fits binary64 a) → T (fits binary64 b) → le a b ≡ true → above z u n start seed b i ≡ true → above z u n start seed a i ≡ true
+  pub above-less : (a b : Float) (i : ℕ) → T (fits binary64 a) → T (fits binary64 b) → le a b ≡ true → above z u n start seed b i
+      ≡ true → above z u n start seed a i ≡ true
   above-less a b i A B h g =
       let x : Float = movedBy u n start (stageOf z u n start seed i) in
       weaker-not (le x b) (le x a) (le-through x a b (moved-fits u (length start) n start (stageOf z u n start seed i .w)) A B h) g
 
-  pub rests-sooner : (first second : Rule) (i : ℕ) → Double first → Double second → allows first second ≡ true → rests z u n start seed second i ≡ true → rests z u n start seed first i ≡ true
+  pub rests-sooner : (first second : Rule) (i : ℕ) → Double first → Double second → allows first second ≡ true → rests z u n start
+      seed second i ≡ true → rests z u n start seed first i ≡ true
   rests-sooner (Target t) (Target s) i A B h g =
       le-leb (entriesAt z u n start seed i) t (omega (arith, leb-true s t h, leb-true (entriesAt z u n start seed i) s g))
   rests-sooner (Target t) (Within b d) i A B h g = never false h refl
@@ -105,9 +108,11 @@ module _ (z : Float) (u : ℕ → ℕ → Float) (n : ℕ) (start : List Float) 
   exceeds-sooner (Within a c) (Within b d) i A B h g =
       let e = both (le a b) (asTight c d) h in
       let k : ℕ = entriesAt z u n start seed i in
-      weaker-and (meets d k) (above z u n start seed b (suc i)) (meets c k) (above z u n start seed a (suc i)) (tight-meets c d k (e .1)) (above-less a b (suc i) A B (e .0)) g
+      weaker-and (meets d k) (above z u n start seed b (suc i)) (meets c k) (above z u n start seed a (suc i))
+      (tight-meets c d k (e .1)) (above-less a b (suc i) A B (e .0)) g
 
-  pub stops-sooner : (first second : Rule) (i : ℕ) → Double first → Double second → allows first second ≡ true → stops z u n start seed second i ≡ true → stops z u n start seed first i ≡ true
+  pub stops-sooner : (first second : Rule) (i : ℕ) → Double first → Double second → allows first second ≡ true → stops z u n start
+      seed second i ≡ true → stops z u n start seed first i ≡ true
   stops-sooner first second i A B h =
       weaker-or (rests z u n start seed second i) (exceeds z u n start seed second i) (rests z u n start seed first i) (exceeds z u n start seed first i)
       (rests-sooner first second i A B h) (exceeds-sooner first second i A B h)
@@ -155,7 +160,8 @@ module _ (z : Float) (u : ℕ → ℕ → Float) (n : ℕ) (start : List Float) 
         let e : ℕ = entriesAt z u n start seed k in
         one-holds (rests z u n start seed (Within a (AtMost c)) k) (exceeds z u n start seed (Within a (AtMost c)) k)
         (stop-is-first z u n start seed falls (Within a (AtMost c)) f .there)
-        (λ r. one-holds (leb e 1) (ltb 0 k && (above z u n start seed a k && leb e c)) r (λ y. le-leb e c (omega (arith, leb-true e 1 y, some (le plusZero a) (finite a) f)))
+        (λ r. one-holds (leb e 1) (ltb 0 k && (above z u n start seed a k && leb e c)) r
+        (λ y. le-leb e c (omega (arith, leb-true e 1 y, some (le plusZero a) (finite a) f)))
         (λ y g. both (above z u n start seed a k) (leb e c) (both (ltb 0 k) (above z u n start seed a k && leb e c) g .1) .1))
         (λ r g. both (leb e c) (above z u n start seed a (suc k)) g .0)
       where

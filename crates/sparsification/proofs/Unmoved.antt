@@ -34,7 +34,8 @@ at-least-nothing o = omega arith
 nothing : (c : ℕ) → 0 < c → ne (round binary64 false 0 c) nought ≡ false
 nothing c h =
     let r = rounded binary64 false 0 c in
-    let e : mag binary64 (round binary64 false 0 c) ≡ 0 = r .size-is ∙ ap (min (overflow binary64)) (grid-zero binary64 c h) ∙ at-least-nothing (overflow binary64) in
+    let e : mag binary64 (round binary64 false 0 c) ≡ 0 = r .size-is ∙ ap (min (overflow binary64)) (grid-zero binary64 c h) ∙ at-least-nothing
+    (overflow binary64) in
     nonzero-is (record { held = round-fits binary64 false 0 c; num = r .number }) ∙ ap (ltb 0) e
 
 pub itself : (x : Float) → T (finite x) → ne (sub binary64 x x) plusZero ≡ false

@@ -132,7 +132,8 @@ module _ (u : ℕ → ℕ → Float) (n : ℕ) (start : List Float) (seed : ℕ)
     pub counts : Filled (entriesAt plusZero u n start seed) (repeated 0 9) (i + 1) nonzeros
     pub moves : Filled movedAt (repeated plusZero 9) (i + 1) change
 
-  module _ {rule : Rule} {i : ℕ} {w : List Float} {rng : ℕ} (on : OnPath rule i w rng) {k : ℕ} {x : Float} (counted : k ≡ nonzeros w) (measured : x ≡ maxChange u (length start) n start w) where
+  module _ {rule : Rule} {i : ℕ} {w : List Float} {rng : ℕ} (on : OnPath rule i w rng) {k : ℕ} {x : Float}
+      (counted : k ≡ nonzeros w) (measured : x ≡ maxChange u (length start) n start w) where
     count-is : k ≡ entriesAt plusZero u n start seed i
     count-is = counted ∙ sym (entries-there on)
 
@@ -151,7 +152,8 @@ module _ (u : ℕ → ℕ → Float) (n : ℕ) (start : List Float) (seed : ℕ)
   note-first few counted measured = note (on-start few (Target 1)) counted measured (filling.start _ _) (filling.start _ _)
 
   -- it is the path of the definition
-  pub noted : {i : ℕ} {ns : List ℕ} {cs : List Float} → i ≤ 8 → Written i ns cs → (r : Path) → r .stage ≡ i → r .nonzeros ≡ ns → r .change ≡ cs → Noted u n start seed i r
+  pub noted : {i : ℕ} {ns : List ℕ} {cs : List Float} → i ≤ 8 → Written i ns cs → (r : Path) → r .stage ≡ i → r .nonzeros ≡ ns → r .change
+      ≡ cs → Noted u n start seed i r
   noted {i} near p r s a b =
       record {
         near = near;
@@ -160,7 +162,8 @@ module _ (u : ℕ → ℕ → Float) (n : ℕ) (start : List Float) (seed : ℕ)
         change = b ∙ p .moves .is ∙ zeros-after plusZero movedAt i near;
       }
 
-  module _ (falls : Falls plusZero u n start seed) {rule : Rule} {i : ℕ} {w : List Float} {rng : ℕ} (accepted : ruleFault rule ≡ 0) (on : OnPath rule i w rng) where
+  module _ (falls : Falls plusZero u n start seed) {rule : Rule} {i : ℕ} {w : List Float} {rng : ℕ}
+      (accepted : ruleFault rule ≡ 0) (on : OnPath rule i w rng) where
     -- one more stage
     module _ {w' : List Float} {rng' : ℕ} (goes-on : stops plusZero u n start seed rule i ≡ false) (pass : halvesOf w' rng' ≡ passFrom w rng) where
       below : (j : ℕ) → j < suc i → stops plusZero u n start seed rule j ≡ false
@@ -212,7 +215,8 @@ module _ (u : ℕ → ℕ → Float) (n : ℕ) (start : List Float) (seed : ℕ)
 
     module _ {w' : List Float} {rng' : ℕ} (more : t < nonzeros w) (pass : halvesOf w' rng' ≡ passFrom w rng) where
       missed : stops plusZero u n start seed (Target t) i ≡ false
-      missed = neither-holds (rests plusZero u n start seed (Target t) i) false (lt-leb (entriesAt plusZero u n start seed i) t (rw (entries-there on) more)) refl
+      missed = neither-holds (rests plusZero u n start seed (Target t) i) false
+          (lt-leb (entriesAt plusZero u n start seed i) t (rw (entries-there on) more)) refl
 
       pub target-next : OnPath (Target t) (i + 1) w' rng'
       target-next = next-on falls (target-fine t positive) on missed pass
@@ -221,7 +225,8 @@ module _ (u : ℕ → ℕ → Float) (n : ℕ) (start : List Float) (seed : ℕ)
       target-fewer = fewer falls (target-fine t positive) on missed pass
 
   -- the job with an allowance
-  module _ (falls : Falls plusZero u n start seed) {a : Float} {c : Cap} {i : ℕ} {w : List Float} {rng : ℕ} (accepted : ruleFault (Within a c) ≡ 0) (on : OnPath (Within a c) i w rng) where
+  module _ (falls : Falls plusZero u n start seed) {a : Float} {c : Cap} {i : ℕ} {w : List Float} {rng : ℕ}
+      (accepted : ruleFault (Within a c) ≡ 0) (on : OnPath (Within a c) i w rng) where
     pub allowance-met : nonzeros w ≤ 1 → {r : Path} → Noted u n start seed i r → Followed u n start seed (Within a c) r w
     allowance-met h path =
         rested falls accepted on path

@@ -73,13 +73,15 @@ module _ (z : Float) (u : ℕ → ℕ → Float) (n : ℕ) (start : List Float) 
 
   module _ (falls : Falls) (rule : Rule) (accepted : ruleFault rule ≡ 0) where
     -- fuel for every nonzero entry is enough
-    pub finds : (fuel i : ℕ) → entriesAt z u n start seed i ≤ fuel → ((j : ℕ) → j < i → stops z u n start seed rule j ≡ false) → FirstStop rule (firstStop z u n start seed rule fuel i)
+    pub finds : (fuel i : ℕ) → entriesAt z u n start seed i ≤ fuel → ((j : ℕ) → j < i → stops z u n start seed rule j ≡ false) → FirstStop
+        rule (firstStop z u n start seed rule fuel i)
     unfolding firstStop
     finds zero i h g = record { there = first-holds (rests z u n start seed rule i) _ (few-rests rule i accepted (omega arith)); before = g }
     finds (suc fuel) i h g = go (stops z u n start seed rule i) refl (finds fuel (suc i))
       where
         go : (t : Bool) → stops z u n start seed rule i ≡ t
-            → (entriesAt z u n start seed (suc i) ≤ fuel → ((j : ℕ) → j < suc i → stops z u n start seed rule j ≡ false) → FirstStop rule (firstStop z u n start seed rule fuel (suc i)))
+            → (entriesAt z u n start seed (suc i) ≤ fuel → ((j : ℕ) → j < suc i → stops z u n start seed rule j ≡ false) → FirstStop
+            rule (firstStop z u n start seed rule fuel (suc i)))
             → FirstStop rule (pick t i (firstStop z u n start seed rule fuel (suc i)))
         go true e r = record { there = e; before = g }
         go false e r =

@@ -30,7 +30,8 @@ unfolding halvedOnce
 length-once z u n omega rest h =
     let r : List ℕ = remaining (h .w) rest in
     let c : Colored = coloringOf z (scaledColumns u n (h .w) omega r) (length r) (suc n) (h .rng) in
-    go (eqb (length r) 0) (record { w = halvedTo (h .w) r (c .x) (sigmaOf (c .x)) (length r); rng = c .rng }) (length-halved (h .w) r (c .x) (sigmaOf (c .x)) (length r))
+    go (eqb (length r) 0) (record { w = halvedTo (h .w) r (c .x) (sigmaOf (c .x)) (length r); rng = c .rng })
+    (length-halved (h .w) r (c .x) (sigmaOf (c .x)) (length r))
   where
     go : (t : Bool) (k : Halved) → length (k .w) ≡ length (h .w) → length (pick t h k .w) ≡ length (h .w)
     go true k e = refl

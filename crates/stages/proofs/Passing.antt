@@ -100,7 +100,8 @@ unfolding normalized l1Of ofBits
 normal-start w held ends total =
     let e = both (lt plusZero (l1Of plusZero w)) (finite (l1Of plusZero w)) total in
     let p : Positive binary64 (l1 binary64 (at w) (length w)) =
-    positive-of-tests (sum-fits binary64 (λ j. absOf (at w j)) (length w)) (shown (finite (l1Of plusZero w)) (e .1)) (shown (lt plusZero (l1Of plusZero w)) (e .0)) in
+    positive-of-tests (sum-fits binary64 (λ j. absOf (at w j)) (length w)) (shown (finite (l1Of plusZero w)) (e .1))
+    (shown (lt plusZero (l1Of plusZero w)) (e .0)) in
     let n = normalised binary64 (at w) (length w) (λ j l. record { held = held j; ends = ends j l }) p in
     let same : (j : ℕ) → j < length (normalized plusZero w) → at (normalized plusZero w) j ≡ div binary64 (at w j) (l1 binary64 (at w) (length w)) =
     λ j l. getD-tab (overAt (l1Of plusZero w) w) (length w) j nan (rw (length-normalized plusZero w) at l) in

@@ -1,4 +1,5 @@
--- The one sequence of stages: stage 0 is the normalized input, and each pass makes the next from the one before, with a generator that runs on.
+-- The one sequence of stages: stage 0 is the normalized input, and each pass makes the next from the one before, with a generator that
+-- runs on.
 -- And the path along it, to the stage that a job returns.
 -- A matrix is a function of the column and the row; it has n rows. z is what a sum starts from.
 use Prim.Native.Nat.{ℕ, zero, suc, _-_}

@@ -126,8 +126,8 @@ fn to_allowance(
     }
 }
 
-// Follows the stages to the one at which the rule stops; the path to there. w and start are the normalized weights, next is room for a pass that is
-// only tried.
+// Follows the stages to the one at which the rule stops; the path to there. w and start are the normalized weights, next is room for a
+// pass that is only tried.
 pub fn follow(
     matrix: &[f64],
     n: usize,

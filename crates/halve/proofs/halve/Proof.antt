@@ -24,7 +24,8 @@ same-length c = search needs
 returns : tie.Need-returns
 returns c =
     let a = c .before .before .before .before .before .before .before .before .before .before .args in
-    halve-none (columnsOf (a .matrix .now) (a .n)) (a .n) (a .w .now) (a .omega) (a .rest .now) (a .rng .state) (c .before .before .remaining-into .ensures .long ∙ c .if1 .taken)
+    halve-none (columnsOf (a .matrix .now) (a .n)) (a .n) (a .w .now) (a .omega) (a .rest .now) (a .rng .state)
+    (c .before .before .remaining-into .ensures .long ∙ c .if1 .taken)
 
 array-share-prefix-some : tie.Need-array-share-prefix-some
 array-share-prefix-some c = search needs
@@ -53,7 +54,8 @@ slice-aggregate-halve-some-4 c = sym (length-take-le _ _ (omega arith))
 halve-some-requires : tie.Need-halve-some-requires
 halve-some-requires c κs =
     let v = c .before .before .before .before .before .before .before .before .before .before .before .before .before .before .before .before .pre in
-    lent (v .0) (v .1) (v .2) (c .before .before .before .before .before .before .before .before .remaining-into .ensures) (length-take-le _ _ (omega arith)) (length-take-le _ _ (omega arith)) (length-take-le _ _ (omega arith))
+    lent (v .0) (v .1) (v .2) (c .before .before .before .before .before .before .before .before .remaining-into .ensures)
+    (length-take-le _ _ (omega arith)) (length-take-le _ _ (omega arith)) (length-take-le _ _ (omega arith))
 
 same-length-2 : tie.Need-same-length-2
 same-length-2 c = search needs
@@ -66,13 +68,14 @@ same-length-4 c = search needs
 
 returns-2 : tie.Need-returns-2
 returns-2 c =
-    let c8 = c .before .before .before .before .before .before .before .before in
-    let c15 = c8 .before .before .before .before .before .before .before in
-    let c17 = c15 .before .before in
-    let c25 = c17 .before .before .before .before .before .before .before .before in
-    let a = c25 .args in
-    let p = c17 .remaining-into .ensures in
-    halve-some (columnsOf (a .matrix .now) (a .n)) (a .n) (a .w .now) (a .omega) (a .rest .now) (a .rng .state) (λ e. c15 .if1 .left (sym (p .long) ∙ e)) _ _ (rw (p .front) at (c8 .halve-some .ensures))
+    let at-halve-some = c .before .before .before .before .before .before .before .before in
+    let at-if1 = at-halve-some .before .before .before .before .before .before .before in
+    let at-remaining-into = at-if1 .before .before in
+    let at-start = at-remaining-into .before .before .before .before .before .before .before .before in
+    let a = at-start .args in
+    let p = at-remaining-into .remaining-into .ensures in
+    halve-some (columnsOf (a .matrix .now) (a .n)) (a .n) (a .w .now) (a .omega) (a .rest .now) (a .rng .state)
+    (λ e. at-if1 .if1 .left (sym (p .long) ∙ e)) _ _ (rw (p .front) at (at-halve-some .halve-some .ensures))
 
 pub halve-spec : {M : Type 1} → statement M
 halve-spec =

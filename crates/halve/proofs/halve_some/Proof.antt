@@ -12,19 +12,21 @@ scales-into-requires c κs = search needs
 
 coloring-requires : tie.Need-coloring-requires
 coloring-requires c κs =
-    let c4 = c .before .before .before .before in
-    let c15 = c4 .before .before .before .before .before .before .before .before .before .before .before in
-    let a = c15 .before .args in
-    let v = c15 .before .pre in
+    let at-slice-known6 = c .before .before .before .before in
+    let at-shared-slice-known = at-slice-known6 .before .before .before .before .before .before .before .before .before .before .before in
+    let a = at-shared-slice-known .before .args in
+    let v = at-shared-slice-known .before .pre in
     let inside = column-inside (a .matrix .now) (a .n) (a .w .now) (a .omega) (a .some .now) (v .whole) (v .inside .below) in (
       record {
         low = omega arith;
         high = omega arith;
         short = omega arith;
         few = v .few;
-        paired = c4 .before .before .scales-into .kept .0 ∙ v .scales;
+        paired = at-slice-known6 .before .before .scales-into .kept .0 ∙ v .scales;
         inside = inside;
-        sound = λ p i h t. finite-entry (a .matrix .now) (a .n) (a .some .now) (c4 .before .before .scales-into .last .0) p i (c15 .shared-slice-known .given _) (c4 .slice-known6 .given p) (v .small) (inside p h) t;
+        sound = λ p i h t. finite-entry (a .matrix .now) (a .n) (a .some .now)
+            (at-slice-known6 .before .before .scales-into .last .0) p i (at-shared-slice-known .shared-slice-known .given _)
+            (at-slice-known6 .slice-known6 .given p) (v .small) (inside p h) t;
       },
       v .colours,
       omega (arith, v .floats, v .rows),
@@ -36,7 +38,8 @@ sigma-of-requires c κs = search needs
 double-or-zero-requires : tie.Need-double-or-zero-requires
 double-or-zero-requires c κs =
     let at-coloring = c .before .before .before .before .before .before .before .before .before .before in
-    let at-start = at-coloring .before .before .before .before .before .before .before .before .before .before .before .before .before .before .before .before .before in
+    let at-start = at-coloring .before .before .before .before .before .before .before .before .before .before .before .before
+    .before .before .before .before .before in
     (at-coloring .coloring .kept .1 .1 .1 .1 .0 ∙ at-start .pre .colours, at-start .pre .inside)
 
 same-length : tie.Need-same-length
@@ -56,16 +59,17 @@ same-length-5 c = search needs
 
 returns : tie.Need-returns
 returns c =
-    let c2 = c .before .before .before in
-    let c5 = c2 .before .before .before in
-    let c13 = c5 .before .before .before .before .before .before .before .before in
-    let c20 = c13 .before .before .before .before .before .before .before in
-    let c30 = c20 .before .before .before .before .before .before .before .before .before .before in
-    let a = c30 .args in
-    let v = c30 .pre in
-    let d = c13 .coloring in
+    let at-double-or-zero = c .before .before .before in
+    let at-sigma-of = at-double-or-zero .before .before .before in
+    let at-coloring = at-sigma-of .before .before .before .before .before .before .before .before in
+    let at-scales-into = at-coloring .before .before .before .before .before .before .before in
+    let at-start = at-scales-into .before .before .before .before .before .before .before .before .before .before in
+    let a = at-start .args in
+    let v = at-start .pre in
+    let d = at-coloring .coloring in
     halved-by (a .matrix .now) (a .n) (a .w .now) (a .omega) (a .some .now) (v .whole) (v .inside .below) (a .rng .state) _ _ _ _
-    _ _ (c20 .scales-into .ensures) (v .rows) (d .ensures .colours) (d .ensures .draws) (c5 .sigma-of .ensures) (c2 .double-or-zero .ensures)
+    _ _ (at-scales-into .scales-into .ensures) (v .rows) (d .ensures .colours) (d .ensures .draws)
+    (at-sigma-of .sigma-of .ensures) (at-double-or-zero .double-or-zero .ensures)
 
 pub halve-some-spec : {M : Type 1} → statement M
 halve-some-spec =

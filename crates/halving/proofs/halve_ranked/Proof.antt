@@ -19,23 +19,24 @@ mul-halve-twice c = search needs
 
 sub-halve-twice : tie.Need-sub-halve-twice
 sub-halve-twice c =
-    let c4 = c .before .before .before .before in
-    let c13 = c4 .before .before .before .before .before .before .before .before .before in
-    omega (arith, kept-within _ _ _ (c4 .rank-into .ensures) (c .before .kept-count .ensures) (c13 .pre .1))
+    let at-rank-into = c .before .before .before .before in
+    let at-start = at-rank-into .before .before .before .before .before .before .before .before .before in
+    omega (arith, kept-within _ _ _ (at-rank-into .rank-into .ensures) (c .before .kept-count .ensures) (at-start .pre .1))
 
 part-halve-twice-start : tie.Need-part-halve-twice-start
 part-halve-twice-start c =
-    let c2 = c .before .before in
-    let c5 = c2 .before .before .before in
-    let c14 = c5 .before .before .before .before .before .before .before .before .before in
-    omega (arith, kept-within _ _ _ (c5 .rank-into .ensures) (c2 .kept-count .ensures) (c14 .pre .1))
+    let at-kept-count = c .before .before in
+    let at-rank-into = at-kept-count .before .before .before in
+    let at-start = at-rank-into .before .before .before .before .before .before .before .before .before in
+    omega (arith, kept-within _ _ _ (at-rank-into .rank-into .ensures) (at-kept-count .kept-count .ensures) (at-start .pre .1))
 
 part-halve-twice-end : tie.Need-part-halve-twice-end
 part-halve-twice-end c = search needs
 
 halve-twice-requires : tie.Need-halve-twice-requires
 halve-twice-requires c κs =
-    let w = c .before .before .before .before .before .before .before .before .before .before .before .before .before .before .before .before .before .args .w .now in
+    let w = c .before .before .before .before .before .before .before .before .before .before .before .before .before .before
+    .before .before .before .args .w .now in
     let v = c .before .before .before .before .before .before .before .before .before .before .before .before .before .before .before .before .before .pre in
     let e = c .before .before .before .before .before .before .before .before .rank-into .ensures in
     let k = c .before .before .before .before .before .kept-count .ensures in

@@ -18,8 +18,8 @@ mul-abs c = omega (arith, c .shared-slice-known3 .given 0)
 
 slice-read-abs : tie.Need-slice-read-abs
 slice-read-abs c =
-    let c7 = c .before .before .before .before .before .before .before in
-    rest-below (c7 .args .w .now) (c7 .args .rest .now) (c7 .pre .1) .below 0 (c7 .pre .2)
+    let at-start = c .before .before .before .before .before .before .before in
+    rest-below (at-start .args .w .now) (at-start .args .rest .now) (at-start .pre .1) .below 0 (at-start .pre .2)
 
 abs-requires : tie.Need-abs-requires
 abs-requires c κs = search needs
@@ -32,11 +32,16 @@ halve-requires c κs =
 
 halve-requires-2 : tie.Need-halve-requires-2
 halve-requires-2 c κs =
-    let a = c .before .before .before .before .before .before .before .before .before .before .before .before .before .before .before .before .before .before .before .before .before .args in
-    let v = c .before .before .before .before .before .before .before .before .before .before .before .before .before .before .before .before .before .before .before .before .before .pre in
+    let a = c .before .before .before .before .before .before .before .before .before .before .before .before .before .before
+    .before .before .before .before .before .before .before .args in
+    let v = c .before .before .before .before .before .before .before .before .before .before .before .before .before .before
+    .before .before .before .before .before .before .before .pre in
     let k = c .before .before .before .before .before .before .before .before .before .halve .kept in
-    let long = k .1 .1 .0 in
-    (ready-still (v .0) long (k .1 .1 .1 .1 .1 .0) (k .1 .1 .1 .1 .1 .1 .0), rw long (rest-below (a .w .now) (a .rest .now) (v .1)), rw long (rest-short (a .w .now) (a .rest .now) (v .1)))
+    let long = k .1 .1 .0 in (
+      ready-still (v .0) long (k .1 .1 .1 .1 .1 .0) (k .1 .1 .1 .1 .1 .1 .0),
+      rw long (rest-below (a .w .now) (a .rest .now) (v .1)),
+      rw long (rest-short (a .w .now) (a .rest .now) (v .1)),
+    )
 
 normalize-requires : tie.Need-normalize-requires
 normalize-requires c κs = search needs
@@ -52,14 +57,14 @@ same-length-3 c = search needs
 
 returns : tie.Need-returns
 returns c =
-    let c2 = c .before .before in
-    let c10 = c2 .before .before .before .before .before .before .before .before in
-    let c20 = c10 .before .before .before .before .before .before .before .before .before .before in
-    let c24 = c20 .before .before .before .before in
-    let c32 = c24 .before .before .before .before .before .before .before .before in
-    let a = c32 .args in
-    pass-holds (columnsOf (a .matrix .now) (a .n)) (a .n) (a .w .now) _ _ _ (a .rest .now) (c24 .abs .result) (a .rng .state) _ _
-    (c32 .pre .1) (c24 .abs .ensures) (c20 .halve .ensures) (c10 .halve2 .ensures) (c2 .normalize .ensures)
+    let at-normalize = c .before .before in
+    let at-halve2 = at-normalize .before .before .before .before .before .before .before .before in
+    let at-halve = at-halve2 .before .before .before .before .before .before .before .before .before .before in
+    let at-abs = at-halve .before .before .before .before in
+    let at-start = at-abs .before .before .before .before .before .before .before .before in
+    let a = at-start .args in
+    pass-holds (columnsOf (a .matrix .now) (a .n)) (a .n) (a .w .now) _ _ _ (a .rest .now) (at-abs .abs .result) (a .rng .state) _ _
+    (at-start .pre .1) (at-abs .abs .ensures) (at-halve .halve .ensures) (at-halve2 .halve2 .ensures) (at-normalize .normalize .ensures)
 
 pub halve-twice-spec : {M : Type 1} → statement M
 halve-twice-spec =

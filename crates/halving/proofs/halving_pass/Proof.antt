@@ -26,10 +26,10 @@ slice-aggregate-halve-ranked-2 c = sym (length-take-le _ _ (omega arith))
 
 halve-ranked-requires : tie.Need-halve-ranked-requires
 halve-ranked-requires c κs =
-    let c6 = c .before .before .before .before .before .before in
-    let c13 = c6 .before .before .before .before .before .before .before in
-    let p = c6 .support-into .ensures in
-    (c13 .pre .0, c13 .pre .1, p .front, length-take-le _ _ (omega arith) ∙ sym (length-take-le _ _ (p .within)))
+    let at-support-into = c .before .before .before .before .before .before in
+    let at-start = at-support-into .before .before .before .before .before .before .before in
+    let p = at-support-into .support-into .ensures in
+    (at-start .pre .0, at-start .pre .1, p .front, length-take-le _ _ (omega arith) ∙ sym (length-take-le _ _ (p .within)))
 
 same-length : tie.Need-same-length
 same-length c = search needs

@@ -19,7 +19,8 @@ same-length-3 : tie.Need-same-length-3
 same-length-3 c = search needs
 
 returns : tie.Need-returns
-returns c = rw (← c .before .before .before .before .before .before .before .before .before .before .cap-of .ensures) (c .before .before .before .before .before .before .sparsify-within .ensures)
+returns c = rw (← c .before .before .before .before .before .before .before .before .before .before .cap-of .ensures)
+    (c .before .before .before .before .before .before .sparsify-within .ensures)
 
 pub knob-sparsify-within-spec : {M : Type 1} → statement M
 knob-sparsify-within-spec =

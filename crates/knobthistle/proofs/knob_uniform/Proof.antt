@@ -14,7 +14,10 @@ uniform-requires : tie.Need-uniform-requires
 uniform-requires c κs = search needs
 
 returns : tie.Need-returns
-returns c = (c .uniform .ensures .0 ∙ ap (λ (s : ℕ). uniformOf (outputOf s)) (c .before .new .ensures), c .uniform .ensures .1 ∙ ap afterOf (c .before .new .ensures))
+returns c = (
+  c .uniform .ensures .0 ∙ ap (λ (s : ℕ). uniformOf (outputOf s)) (c .before .new .ensures),
+  c .uniform .ensures .1 ∙ ap afterOf (c .before .new .ensures),
+)
 
 pub knob-uniform-spec : {M : Type 1} → statement M
 knob-uniform-spec = tie.close (tie.spec new-requires uniform-requires returns)

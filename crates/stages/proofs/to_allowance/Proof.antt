@@ -1,4 +1,5 @@
--- `stages::to_allowance` meets its contract: the loop stands on the path of the stages, at one that does not close it, each is noted, and the nonzeros fall with
+-- `stages::to_allowance` meets its contract: the loop stands on the path of the stages, at one that does not close it, each is noted, and the nonzeros
+-- fall with
 -- each pass.
 use borrow.Author.Needs.{needs}
 use borrow.Author.Tests.{not-true, not-false}
@@ -109,7 +110,8 @@ count-nonzeros-requires-2 c κs = search needs
 
 mul-nonzeros-2 : tie.Need-mul-nonzeros-2 Inv-loop μ-loop
 mul-nonzeros-2 c =
-    let at-loop = c .before .before .before .before .before .before .before .before .before .before .before .before .before .before .before .before .before .before in
+    let at-loop = c .before .before .before .before .before .before .before .before .before .before .before .before .before
+    .before .before .before .before .before in
     omega (arith, at-loop .loop .inv .0 .near)
 
 array-write-nonzeros-2 : tie.Need-array-write-nonzeros-2 Inv-loop μ-loop
@@ -121,7 +123,8 @@ array-write-nonzeros-2 c =
 
 mul-change-2 : tie.Need-mul-change-2 Inv-loop μ-loop
 mul-change-2 c =
-    let at-loop = c .before .before .before .before .before .before .before .before .before .before .before .before .before .before .before .before .before .before in
+    let at-loop = c .before .before .before .before .before .before .before .before .before .before .before .before .before
+    .before .before .before .before .before in
     omega (arith, at-loop .loop .inv .0 .near)
 
 array-write-change-2 : tie.Need-array-write-change-2 Inv-loop μ-loop

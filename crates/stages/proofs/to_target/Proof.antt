@@ -1,4 +1,5 @@
--- `stages::to_target` meets its contract: the loop stands on the path of the stages, none of which has stopped, each is noted, and the nonzeros fall with each pass.
+-- `stages::to_target` meets its contract: the loop stands on the path of the stages, none of which has stopped, each is noted, and the nonzeros fall with
+-- each pass.
 use borrow.Author.Needs.{needs}
 use Prim.Native.Nat.{_<_}
 use mathlib.Core.Bool.{true}
