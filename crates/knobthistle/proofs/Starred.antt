@@ -9,7 +9,7 @@ use borrow.Author.Tests.{le-ltb}
 use lib.Dec.{T, eqb·suc-zero}
 use lib.ListN.{length}
 use lib.Seq.{ext-getD}
-use lib.Ieee.{Float, nan, binary64, ofBits, fits, isNan, add, sub, mul, div, lt, le, ne, eq}
+use lib.Ieee.{Float, nan, binary64, ofBits, toBits, fits, isNan, add, sub, mul, div, lt, le, ne, eq}
 use Rattle.seq.specs.Lists.{tabulate}
 use Rattle.seq.specs.Sums.{plusZero, at, sumFrom}
 use Rattle.seq.specs.Keep.{count, allTo}
@@ -41,6 +41,15 @@ use Rattle.sparsification.proofs.DemandThree.{Doubles}
 use Rattle.sparsification.proofs.Settled.{stage-alone, settled}
 use Rattle.knobthistle.specs.Cases.{table, hold, half, underHalf, quarter, threeQuarters, one, minusOne, three, minusThree, four, atOnce, oneLeft}
 use Rattle.knobthistle.specs.Cases.{smallest, matrix, by, any, thins, refuses, refusesRule, draws, uniform, Room, called, holds}
+use Rattle.seq.specs.Lists.{repeated}
+use Rattle.fields.specs.Digits.{digitsOf}
+use Rattle.fields.specs.Texts.{widthIn}
+use Rattle.form.specs.Sheets.{Wish, within, entriesText, columnText, columnsText}
+use Rattle.form.proofs.OfForm.{of-the-form-is-taken}
+use Rattle.sheet.specs.Answer.{sheetFault, jobText, okLine, weightLines, answerText}
+use Rattle.knobthistle.specs.Cases.{onSheet}
+use Rattle.knobthistle.specs.SheetBytes.{sheetWith, halfRule, underHalfRule, cappedRule, oneLeftText, bothLeftText}
+use Rattle.knobthistle.proofs.SheetCases.{room, answered-so, returned-so, saying, fitting, job-of, text-of}
 
 abbrev columns : ℕ → ℕ → Float
 columns = columnsOf matrix 2
@@ -369,25 +378,94 @@ case-11-below : holds (uniform (2 ^ 53 - 2) (ofBits binary64 0x3FEF_FFFF_FFFF_FF
 unfolding ofBits
 case-11-below word e = ap uniformAt e ∙ largest .1
 
+-- ---- C1 to C3, as calls and as sheets
+
+case-1 : holds (thins (one ∷ three ∷ []) (by (Within half Absent)) (oneLeft half) (plusZero ∷ one ∷ []))
+case-1 =
+    called-so one three shares start-13 doubles-13 sound-13 (Within half Absent) 1 (plusZero ∷ one ∷ []) ruled-1
+    (λ s n. (at-1 (goes-1 s n) (stops-1 s n), next-13 s n)) answer-13
+
+case-2 : holds (thins (one ∷ three ∷ []) (by (Within underHalf Absent)) (atOnce 2) shares)
+case-2 =
+    called-so one three shares start-13 doubles-13 sound-13 (Within underHalf Absent) 0 shares ruled-2
+    (λ s n. (at-0 (stops-2 s n), stage-0 shares s)) answer-13-first
+
+case-3 : holds (thins (one ∷ three ∷ []) (by (Within plusZero (AtMost 1))) (oneLeft half) (plusZero ∷ one ∷ []))
+case-3 =
+    called-so one three shares start-13 doubles-13 sound-13 (Within plusZero (AtMost 1)) 1 (plusZero ∷ one ∷ []) ruled-3
+    (λ s n. (at-1 (goes-3 s n) (stops-3 s n), next-13 s n)) answer-13
+
+-- the weights 1 and 3 by a rule that is not refused
+module _ (rule : Rule) (answer : Answer) (v : List Float) (ruled : ruleFault rule ≡ 0) (good : answer .number ≡ 0)
+    (claim : called (one ∷ three ∷ []) (by rule) (λ output r output'. (r ≡ answer) × (output' ≡ v))) where
+  none-13 : jobFault rule matrix 2 2 (one ∷ three ∷ []) 2 100 100 ≡ 0
+  unfolding tabulate
+  none-13 = fault-is rule one three (repeated plusZero 2) (repeated plusZero 100) (repeated 0 100) ruled room ∙ sound-13
+
+  sheet-none-13 : sheetFault rule matrix 2 2 (one ∷ three ∷ []) ≡ 0
+  unfolding sheetFault
+  sheet-none-13 = rw (ruled, sound-13)
+
+  text-13 : (seed : ℕ) → jobText rule seed matrix 2 2 (one ∷ three ∷ []) ≡ answerText answer v
+  text-13 seed =
+      text-of (one ∷ three ∷ []) rule seed answer v sheet-none-13
+      (answered-so (one ∷ three ∷ []) rule answer v claim none-13 good seed)
+      (returned-so (one ∷ three ∷ []) rule answer v claim none-13 good seed)
+
+one-left-text : answerText (oneLeft half) (plusZero ∷ one ∷ []) ≡ oneLeftText
+unfolding answerText okLine weightLines digitsOf widthIn ofBits toBits
+one-left-text = refl
+
+both-left-text : answerText (atOnce 2) shares ≡ bothLeftText
+unfolding answerText okLine weightLines digitsOf widthIn ofBits toBits
+both-left-text = refl
+
+sheet-1 : holds (onSheet halfRule oneLeftText)
+unfolding digitsOf widthIn entriesText columnText columnsText tabulate
+sheet-1 seed s =
+    let wish : Wish = within 0x3FE0_0000_0000_0000 Absent in
+    job-of (sheetWith halfRule seed) (saying wish seed) (of-the-form-is-taken (saying wish seed) (fitting wish seed refl s))
+    ∙ text-13 (Within half Absent) (oneLeft half) (plusZero ∷ one ∷ []) ruled-1 refl case-1 seed ∙ one-left-text
+
+sheet-2 : holds (onSheet underHalfRule bothLeftText)
+unfolding digitsOf widthIn entriesText columnText columnsText tabulate
+sheet-2 seed s =
+    let wish : Wish = within 0x3FDF_FFFF_FFFF_FFFF Absent in
+    job-of (sheetWith underHalfRule seed) (saying wish seed) (of-the-form-is-taken (saying wish seed) (fitting wish seed refl s))
+    ∙ text-13 (Within underHalf Absent) (atOnce 2) shares ruled-2 refl case-2 seed ∙ both-left-text
+
+sheet-3 : holds (onSheet cappedRule oneLeftText)
+unfolding digitsOf widthIn entriesText columnText columnsText tabulate
+sheet-3 seed s =
+    let wish : Wish = within 0 (AtMost 1) in
+    job-of (sheetWith cappedRule seed) (saying wish seed) (of-the-form-is-taken (saying wish seed) (fitting wish seed refl s))
+    ∙ text-13 (Within plusZero (AtMost 1)) (oneLeft half) (plusZero ∷ one ∷ []) ruled-3 refl case-3 seed ∙ one-left-text
+
 -- ---- all of them
 
 pub starred : hold table
 starred = (
-  called-so one three shares start-13 doubles-13 sound-13 (Within half Absent) 1 (plusZero ∷ one ∷ []) ruled-1
-      (λ s n. (at-1 (goes-1 s n) (stops-1 s n), next-13 s n)) answer-13,
+  case-1,
   (
-    called-so one three shares start-13 doubles-13 sound-13 (Within underHalf Absent) 0 shares ruled-2
-        (λ s n. (at-0 (stops-2 s n), stage-0 shares s)) answer-13-first,
+    sheet-1,
     (
-      called-so one three shares start-13 doubles-13 sound-13 (Within plusZero (AtMost 1)) 1 (plusZero ∷ one ∷ []) ruled-3
-          (λ s n. (at-1 (goes-3 s n) (stops-3 s n), next-13 s n)) answer-13,
+      case-2,
       (
-        called-so one one halves start-11 doubles-11 sound-11 (Target 1) 1 (one ∷ plusZero ∷ []) refl
-            (λ s n. (at-1 (goes-4 s n) (stops-4 s n), next-11 s n)) answer-11,
+        sheet-2,
         (
-          called-so minusThree one signed start-31 doubles-31 sound-31 (Target 1) 1 (minusOne ∷ plusZero ∷ []) refl
-              (λ s n. (at-1 (goes-5 s n) (stops-5 s n), next-31 s n)) answer-31,
-          (case-6, (case-7, (case-10, (case-11, (case-11-below, (answered, (case-14, tt))))))),
+          case-3,
+          (
+            sheet-3,
+            (
+              called-so one one halves start-11 doubles-11 sound-11 (Target 1) 1 (one ∷ plusZero ∷ []) refl
+                  (λ s n. (at-1 (goes-4 s n) (stops-4 s n), next-11 s n)) answer-11,
+              (
+                called-so minusThree one signed start-31 doubles-31 sound-31 (Target 1) 1 (minusOne ∷ plusZero ∷ []) refl
+                    (λ s n. (at-1 (goes-5 s n) (stops-5 s n), next-31 s n)) answer-31,
+                (case-6, (case-7, (case-10, (case-11, (case-11-below, (answered, (case-14, tt))))))),
+              ),
+            ),
+          ),
         ),
       ),
     ),

@@ -1,6 +1,6 @@
 -- The starred cases of document 01, "Numbers to hold it to": one table, and what each row claims, in the words of the exported calls'
 -- promises.
-use Prim.Native.Nat.{ℕ, _-_, _/_, _^_, _≤_}
+use Prim.Native.Nat.{ℕ, _-_, _/_, _^_, _≤_, _<_}
 use mathlib.Core.Path.{_≡_}
 use mathlib.Core.Bool.{true}
 use mathlib.Core.List.{List, [], _∷_}
@@ -15,6 +15,8 @@ use Rattle.limits.specs.Limits.{numbersNeeded, indicesNeeded}
 use Rattle.margins.specs.Answers.{changeAnswer}
 use Rattle.sparsification.specs.Answers.{refusal, Thinned}
 use Rattle.rules.specs.Rules.{ruleFault}
+use Rattle.sheet.specs.Answer.{sheetAnswer}
+use Rattle.knobthistle.specs.SheetBytes.{sheetWith, halfRule, underHalfRule, cappedRule, oneLeftText, bothLeftText}
 use Rattle.sparsification.specs.declared.Answer.{Answer}
 use Rattle.rules.specs.declared.Cap.the-variants.{Absent, AtMost}
 use Rattle.rules.specs.declared.Rule.{Rule}
@@ -30,6 +32,8 @@ pub data Rules : Type 0 where
 pub data Case : Type 0 where
   -- these weights by these rules, whatever the seed: the answer, and what is written
   thins : List Float → Rules → Answer → List Float → Case
+  -- a sheet with this rule in it, whatever the seed that it says: the text of its answer
+  onSheet : List ℕ → List ℕ → Case
   -- these weights by these rules, whatever the seed: refused by this number, and nothing is written
   refuses : List Float → Rules → ℕ → Case
   -- a rule that is refused by this number whatever it is to thin
@@ -111,10 +115,14 @@ abbrev pub table : List Row
 table =
     -- C1, the sheet: weights 1 and 3, allowance 0.5, no cap
     record { number = 1; claim = thins (one ∷ three ∷ []) (by (Within half Absent)) (oneLeft half) (plusZero ∷ one ∷ []) }
+    -- and from the sheet's bytes to the answer's
+    ∷ record { number = 1; claim = onSheet halfRule oneLeftText }
     -- C2, an allowance just below 0.5: the normalized weights
     ∷ record { number = 2; claim = thins (one ∷ three ∷ []) (by (Within underHalf Absent)) (atOnce 2) (quarter ∷ threeQuarters ∷ []) }
+    ∷ record { number = 2; claim = onSheet underHalfRule bothLeftText }
     -- C3, allowance 0 and cap 1: as C1
     ∷ record { number = 3; claim = thins (one ∷ three ∷ []) (by (Within plusZero (AtMost 1))) (oneLeft half) (plusZero ∷ one ∷ []) }
+    ∷ record { number = 3; claim = onSheet cappedRule oneLeftText }
     -- C4, equal weights: the first is left
     ∷ record { number = 4; claim = thins (one ∷ one ∷ []) (by (Target 1)) (oneLeft one) (one ∷ plusZero ∷ []) }
     -- C5, a negative weight keeps its sign
@@ -157,6 +165,7 @@ called weights rules P =
 
 abbrev pub holds : Case → Type 0
 holds (thins weights rules answer written) = called weights rules (λ output r output'. (r ≡ answer) × (output' ≡ written))
+holds (onSheet rule answer) = (seed : ℕ) → seed < 2 ^ 64 → sheetAnswer (sheetWith rule seed) ≡ answer
 holds (refuses weights rules number) = called weights rules (λ output r output'. (r ≡ refusal number) × (output' ≡ output))
 holds (refusesRule rule number) =
     (seed : ℕ) (u : List Float) (m n : ℕ) (weights output numbers : List Float) (indices : List ℕ)
