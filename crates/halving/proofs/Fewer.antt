@@ -18,11 +18,11 @@ use Rattle.ieee.specs.Pass.{Turned, kept, once, again, gone}
 use Rattle.ieee.proofs.Signs.{SameSign, nonzero, nought-is, twice-is}
 use Rattle.ieee.proofs.Counting.{count-lt}
 use Rattle.ieee.proofs.Normalised.{Normal}
-use Rattle.ieee.proofs.Ops.{Positive}
+use Rattle.ieee.proofs.Ops.{Finite, Positive}
 use Rattle.ieee.proofs.Norms.{l1}
 use Rattle.ieee.proofs.Alikes.{sum-up-is}
 use Rattle.ieee.proofs.Tests.{tests-of-positive}
-use Rattle.ieee.proofs.Pass.{Step, step-sum, step-normal, pass-signs}
+use Rattle.ieee.proofs.Pass.{Step, pass-ends, step-sum, step-normal, pass-signs}
 use Rattle.ieee.specs.Constants.{two}
 use Rattle.coloring.proofs.Colours.{colours}
 use Rattle.weights.specs.Weights.{isOn, nonzeros, l1Of, sound, overAt, normalized}
@@ -223,7 +223,12 @@ module _ (u : ℕ → ℕ → Float) (n : ℕ) (h : Halved) (some : 2 ≤ nonzer
       sum-is = l1-is (second plusZero u n h .w) (length (h .w)) (long-second plusZero u n h)
 
   module _ (normal : Normal binary64 (length (h .w)) (at (h .w))) (few : length (h .w) ≤ 256) where
-    sum-positive : Positive binary64 (l1Of plusZero (second plusZero u n h .w))
+    -- before the division every weight is finite
+    pub second-ends : (j : ℕ) → j < length (h .w) → Finite binary64 (at (second plusZero u n h .w) j)
+    unfolding pass-step
+    second-ends = pass-ends binary64 (length (h .w)) (at (h .w)) (pass-step .turned) normal (pass-step .each)
+
+    pub sum-positive : Positive binary64 (l1Of plusZero (second plusZero u n h .w))
     unfolding pass-step
     sum-positive = rw (l1-is (second plusZero u n h .w) (length (h .w)) (long-second plusZero u n h)) (step-sum normal few pass-step)
 

@@ -10,3 +10,4 @@ pub mod Quarter
 pub mod Few
 pub mod Calls
 pub mod Starts
+pub mod Left

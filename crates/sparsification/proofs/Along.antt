@@ -1,22 +1,29 @@
 -- One accepted job: it keeps what its rule asks for, and the path in its answer. There are at most nine stages, each pass leaves at most half of the
--- nonzeros, rounded
--- down, so that they fall strictly, and the single fields are the returned stage's entry.
-use Prim.Native.Nat.{ℕ, suc, _*_, _≤_, _<_}
-use mathlib.Core.Path.{_≡_, sym, ap, _∙_}
+-- nonzeros, rounded down, so that they fall strictly, every stage has one, and the single fields are the returned stage's entry.
+use Prim.Native.Nat.{ℕ, zero, suc, _*_, _≤_, _<_}
+use mathlib.Core.Path.{_≡_, ap, _∙_}
 use mathlib.Core.Bool.{true}
 use mathlib.Core.List.{List}
 use native.Mathlib.Omega.{arith}
 use lib.ListN.{length, getD}
-use lib.Ieee.{Float, nan, binary64}
+use lib.Ieee.{Float, nan, binary64, ofBits, lt}
+use lib.Ieee.Scale.{finite}
 use Rattle.seq.specs.Sums.{plusZero, at}
 use Rattle.limits.specs.Matrix.{columnsOf}
+use Rattle.seq.proofs.Choosing.{both, shown}
+use Rattle.ieee.specs.Magnitude.{absOf}
+use Rattle.ieee.proofs.Ops.{Positive}
 use Rattle.ieee.proofs.Normalised.{Normal}
-use Rattle.weights.specs.Weights.{normalized}
+use Rattle.ieee.proofs.Tests.{positive-of-tests}
+use Rattle.ieee.proofs.Zeros.{sum-fits}
+use Rattle.weights.specs.Weights.{l1Of, normalized}
+use Rattle.halving.proofs.Left.{normalized-some, pass-some}
 use Rattle.rules.specs.declared.Rule.{Rule}
 use Rattle.stages.specs.Stages.{stageOf, movedBy}
 use Rattle.stages.specs.Stopping.{entriesAt}
 use Rattle.stages.proofs.Halting.{Falls, leads}
-use Rattle.stages.proofs.Passing.{falling}
+use Rattle.stages.proofs.Lengths.{length-stage}
+use Rattle.stages.proofs.Passing.{falling, normal-stage}
 use Rattle.stages.proofs.Following.{path-at, nine-stages}
 use Rattle.sparsification.specs.Answers.{answerAt, stopFor, Thinned}
 use Rattle.sparsification.specs.Demand.{keeps}
@@ -26,7 +33,7 @@ use Rattle.sparsification.proofs.DemandThree.{Doubles, start-normal, st
 
 module _ {rule : Rule} {seed : ℕ} {u : List Float} {m n : ℕ} {w output numbers : List Float} {indices : List ℕ}
     {r : Answer} {output' numbers' : List Float} {indices' : List ℕ}
-    (job : Thinned rule seed u m n w output numbers indices r output' numbers' indices') (doubles : Doubles w) (zero : r .number ≡ 0) where
+    (job : Thinned rule seed u m n w output numbers indices r output' numbers' indices') (doubles : Doubles w) (ok : r .number ≡ 0) where
   abbrev start : List Float
   start = normalized plusZero w
 
@@ -34,7 +41,7 @@ module _ {rule : Rule} {seed : ℕ} {u : List Float} {m n : ℕ} {w output numbe
   stop = stopFor u n w seed rule
 
   fine : Accepted rule u m n w (length output) (length numbers) (length indices)
-  fine = accepted rule u m n w (length output) (length numbers) (length indices) (number-none job zero)
+  fine = accepted rule u m n w (length output) (length numbers) (length indices) (number-none job ok)
 
   normal : Normal binary64 (length start) (at start)
   normal = start-normal doubles fine
@@ -43,7 +50,7 @@ module _ {rule : Rule} {seed : ℕ} {u : List Float} {m n : ℕ} {w output numbe
   falls = falling (columnsOf u n) n start seed normal (start-few doubles fine)
 
   is : r ≡ answerAt (columnsOf u n) n start seed stop
-  is = answer-stage job (number-none job zero)
+  is = answer-stage job (number-none job ok)
 
   -- what the rule asks for
   pub one-keeps : keeps rule r ≡ true
@@ -78,3 +85,26 @@ module _ {rule : Rule} {seed : ℕ} {u : List Float} {m n : ℕ} {w output numbe
   strictly-fewer i l =
       let e : r .stage ≡ stop = ap (λ (x : Answer). x .stage) is in
       omega (arith, at-most-half i l, leads plusZero (columnsOf u n) n start seed falls rule (fine .ruled) i (omega arith), entries-at i (omega arith))
+
+  -- every stage has a nonzero
+  start-positive : Positive binary64 (l1Of plusZero w)
+  unfolding l1Of ofBits
+  start-positive =
+      let e = both (lt plusZero (l1Of plusZero w)) (finite (l1Of plusZero w)) (fine .valued .total) in
+      positive-of-tests (sum-fits binary64 (λ j. absOf (at w j)) (length w)) (shown (finite (l1Of plusZero w)) (e .1))
+      (shown (lt plusZero (l1Of plusZero w)) (e .0))
+
+  some-at : (i : ℕ) → i ≤ stop → 1 ≤ entriesAt plusZero (columnsOf u n) n start seed i
+  unfolding stageOf
+  some-at zero l =
+      normalized-some w (λ j k. record { held = doubles j; ends = fine .valued .ends j k }) (omega (arith, fine .sized .given, fine .sized .few)) start-positive
+  some-at (suc i) l =
+      let before = leads plusZero (columnsOf u n) n start seed falls rule (fine .ruled) in
+      pass-some (columnsOf u n) n (stageOf plusZero (columnsOf u n) n start seed i) (before i (omega arith))
+      (normal-stage (columnsOf u n) n start seed normal (start-few doubles fine) i (λ j k. before j (omega arith)))
+      (rw (length-stage plusZero (columnsOf u n) n start seed i) (start-few doubles fine))
+
+  pub every-some : (i : ℕ) → i ≤ r .stage → 1 ≤ getD (r .«path_nonzeros») i 0
+  every-some i l =
+      let e : r .stage ≡ stop = ap (λ (x : Answer). x .stage) is in
+      omega (arith, some-at i (omega arith), entries-at i l)

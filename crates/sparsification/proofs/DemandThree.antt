@@ -1,7 +1,7 @@
 -- Demand 3: of two accepted jobs on one matrix, weights and seed, of one kind, the second allowing at least as much, the second's answer is the same or
 -- a later stage of the one sequence; its nonzero entries stand among the first's with the same signs; without a cap its change is within the allowance,
 -- and with one the cap is kept.
-use Prim.Native.Nat.{ℕ, _≤_, _<_}
+use Prim.Native.Nat.{ℕ, _≤_}
 use mathlib.Core.Path.{_≡_, ap}
 use mathlib.Core.Bool.{true}
 use mathlib.Core.List.{List}

@@ -1,8 +1,7 @@
 -- Where the stage at which an accepted job stops is known, so are its answer and its output. And C8 on stages: one of 2, 3 or 4 nonzeros leaves its
 -- largest alone to the next.
-use Prim.Native.Nat.{ℕ, suc, _≤_, _<_}
+use Prim.Native.Nat.{ℕ, suc, _≤_}
 use mathlib.Core.Path.{_≡_, ap, _∙_}
-use mathlib.Core.Bool.{true}
 use mathlib.Core.List.{List}
 use lib.ListN.{length}
 use lib.Ieee.{Float, binary64}

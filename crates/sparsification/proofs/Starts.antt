@@ -1,17 +1,17 @@
--- What a sum starts from, +0.0 or -0.0, reaches no answer: every stage is the same, and so is the stage at which a job stops.
+-- What a sum starts from, +0.0 or -0.0, reaches no answer: every stage is the same, and so are the stage at which a job stops and the number 9.
 use Prim.Native.Nat.{ℕ, zero, suc}
 use mathlib.Core.Path.{_≡_, refl, ap, _∙_}
-use mathlib.Core.Bool.{not, _&&_, _||_}
+use mathlib.Core.Bool.{Bool, not, _&&_, _||_}
 use mathlib.Core.List.{List}
 use lib.Dec.{leb, ltb}
 use lib.ListN.{length}
 use lib.Ieee.{Float, le}
 use Rattle.seq.specs.Choice.{pick}
 use Rattle.seq.specs.Sums.{plusZero, minusZero}
-use Rattle.weights.specs.Weights.{nonzeros, normalized}
+use Rattle.weights.specs.Weights.{nonzeros, l1Of, sound, normalized}
 use Rattle.halve.specs.Halve.{Halved}
 use Rattle.halving.specs.Halving.{passOf}
-use Rattle.halving.proofs.Starts.{normalized-same, pass-same}
+use Rattle.halving.proofs.Starts.{sound-same, normalized-same, pass-same}
 use Rattle.stages.specs.Stages.{stageOf, movedBy}
 use Rattle.rules.specs.Rules.{meets}
 use Rattle.stages.specs.Stopping.{rests, exceeds, stops, firstStop, stopOf}
@@ -52,3 +52,7 @@ module _ (u : ℕ → ℕ → Float) (n : ℕ) (w : List Float) (seed : ℕ) whe
 
   pub stops-alike : (rule : Rule) → stopOf minusZero u n (normalized minusZero w) seed rule ≡ stopOf plusZero u n (normalized plusZero w) seed rule
   stops-alike rule = stop-same u n (normalized minusZero w) seed rule ∙ ap (λ (start : List Float). stopOf plusZero u n start seed rule) (normalized-same w)
+
+-- and the number 9 is the same
+pub nine-alike : (w : List Float) → _≡_ {A = ℕ} (pick (sound (l1Of minusZero w)) 0 9) (pick (sound (l1Of plusZero w)) 0 9)
+nine-alike w = ap (λ (t : Bool). pick t 0 9) (sound-same w)
