@@ -1,4 +1,4 @@
--- What a halving is handed, and what its functions say to each other.
+-- Told between functions: what a halving is handed, and what it leaves.
 use Prim.Native.Nat.{ℕ, _+_, _*_, _≤_}
 use mathlib.Core.Path.{_≡_}
 use mathlib.Core.Bool.{true}
