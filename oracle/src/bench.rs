@@ -79,7 +79,7 @@ fn colorings(chance: &mut Chance) {
 }
 
 fn jobs(chance: &mut Chance, folder: &str) {
-    for (m, n) in [(8, 16), (32, 64), (60, 500), (60, 2000), (256, 4096)] {
+    for (m, n) in [(8, 16), (32, 64), (60, 500), (60, 2000), (200, 1000), (256, 4096)] {
         let matrix: Vec<f64> = (0..m * n).map(|_| chance.sign()).collect();
         let weights: Vec<f64> = (0..m).map(|_| chance.unit() + 0.5).collect();
         line(&format!("target 4 of {m}x{n}"), job(&matrix, m, n, &weights));

@@ -2,6 +2,7 @@
 pub mod Stretches
 pub mod Columns
 pub mod Refusals
+pub mod Nothing
 pub mod OldCount
 pub mod Unique
 pub mod SmallCase
