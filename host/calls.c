@@ -112,6 +112,14 @@ static void draws(void) {
         hold("knob_gaussian", bits(CALL_knob_gaussian) == 0xBFE4837E94C544CCu && ours == 0x3C6EF372FE94F82Du);
     }
     {
+        uint64_t ours = 0x61C8864680B583EBu, *state = &ours; /* C10's state, by edition 2 */
+        hold("knob_uniform_2", CALL_knob_uniform_2 == 1.0 / 9007199254740992.0 && ours == 0);
+    }
+    {
+        uint64_t ours = 0x61C8864680B583EBu, *state = &ours;
+        hold("knob_gaussian_2", bits(CALL_knob_gaussian_2) == 0x40197A0B4576ECD0u && ours == 0x9E3779B97F4A7C15u);
+    }
+    {
         const double x = 2.0;
         hold("knob_sqrt", bits(CALL_knob_sqrt) == 0x3FF6A09E667F3BCDu);
     }
@@ -123,6 +131,14 @@ static void draws(void) {
         const uint64_t word = 0xB3466F8A7B81A989u;
         hold("knob_cos_draw", bits(CALL_knob_cos_draw) == 0xBFD3AA3076A982D8u);
     }
+    {
+        const uint64_t word = 0;
+        hold("knob_log_draw_2", bits(CALL_knob_log_draw_2) == 0xC0425E4F7B2737FAu);
+    }
+    {
+        const uint64_t word = 0x9E3779B97F4A7C15u;
+        hold("knob_cos_draw_2", bits(CALL_knob_cos_draw_2) == 0xBFE798869E0DE834u);
+    }
 }
 
 static void sparsify(void) {
@@ -133,6 +149,7 @@ static void sparsify(void) {
         const size_t m = 24, n = 5, matrix_length = 120, weights_length = 24, output_length = 24;
         const size_t numbers_length = KNOB_NUMBERS(24, 5), indices_length = KNOB_INDICES(24, 5), target = 7;
         const uint64_t seed = 3;
+        const uint32_t edition = 1;
         static const struct left left[] = {{3, 0x3FB826A439F656F2u}, {4, 0x3FCCFB2B78C13523u}, {5, 0x3FC3521CFB2B78C2u},
                                            {17, 0xBFC3521CFB2B78C2u}, {19, 0x3FD826A439F656F2u}};
         fill(m, n);
@@ -140,10 +157,33 @@ static void sparsify(void) {
         hold("knob_sparsify, its record", answers(CALL_knob_sparsify, KNOB_ACCEPTED, 2, 5, 0x3FDC6EF752A04B3Cu));
         hold("knob_sparsify", thinned(m, left, 5) && wiped(numbers_length, indices_length));
     }
+    { /* By edition 2, from a seed on which edition 1 leaves others. */
+        const size_t m = 24, n = 5, matrix_length = 120, weights_length = 24, output_length = 24;
+        const size_t numbers_length = KNOB_NUMBERS(24, 5), indices_length = KNOB_INDICES(24, 5), target = 7;
+        const uint64_t seed = 0xACFA9D4D29BC9012u;
+        const uint32_t edition = 2;
+        static const struct left left[] = {{3, 0x3FB745D1745D1746u}, {8, 0x3FD745D1745D1746u}, {13, 0x3FC745D1745D1746u},
+                                           {17, 0xBFC29E4129E4129Fu}, {18, 0x3FCBED61BED61BEDu}};
+        lend();
+        hold("knob_sparsify by edition 2, its record", answers(CALL_knob_sparsify, KNOB_ACCEPTED, 2, 5, 0x3FD10EDEAD3F798Du));
+        hold("knob_sparsify by edition 2", thinned(m, left, 5) && wiped(numbers_length, indices_length));
+    }
+    { /* The edition is tested after the target, and before the sizes. */
+        const size_t m = 257, n = 5, matrix_length = 6, weights_length = 7, output_length = 8;
+        const size_t numbers_length = 9, indices_length = 10;
+        const uint64_t seed = 12;
+        const uint32_t edition = 3;
+        size_t target = 11;
+        lend();
+        hold("knob_sparsify, no such edition", answers(CALL_knob_sparsify, KNOB_REFUSED_EDITION, 0, 0, 0) && untouched());
+        target = 0;
+        hold("knob_sparsify, no target", answers(CALL_knob_sparsify, KNOB_REFUSED_ZERO, 0, 0, 0) && untouched());
+    }
     { /* No two of these are equal. */
         const size_t m = 257, n = 5, matrix_length = 6, weights_length = 7, output_length = 8;
         const size_t numbers_length = 9, indices_length = 10, target = 11;
         const uint64_t seed = 12;
+        const uint32_t edition = 2;
         lend();
         hold("knob_sparsify, refused", answers(CALL_knob_sparsify, KNOB_REFUSED_SIZE, 0, 0, 0) && untouched());
     }
@@ -157,7 +197,7 @@ static void sparsify_within(void) {
         const size_t m = 40, n = 7, matrix_length = 280, weights_length = 40, output_length = 40;
         const size_t numbers_length = KNOB_NUMBERS(40, 7), indices_length = KNOB_INDICES(40, 7), cap = 12;
         const uint64_t seed = 4;
-        const uint32_t capped = 1;
+        const uint32_t edition = 1, capped = 1;
         const double allowance = 0.03125;
         static const struct left left[] = {{3, 0x3FB0690690690690u}, {7, 0xBFC3B13B13B13B14u}, {8, 0x3FB0690690690690u},
                                            {16, 0x3FBA41A41A41A41Au}, {17, 0xBFBA41A41A41A41Au}, {20, 0x3FC0690690690690u},
@@ -167,11 +207,35 @@ static void sparsify_within(void) {
         hold("knob_sparsify_within, its record", answers(CALL_knob_sparsify_within, KNOB_ACCEPTED, 2, 8, 0x3FD171B8E4FA2B41u));
         hold("knob_sparsify_within", thinned(m, left, 8) && wiped(numbers_length, indices_length));
     }
+    { /* By edition 2, from a seed on which edition 1 leaves others. */
+        const size_t m = 40, n = 7, matrix_length = 280, weights_length = 40, output_length = 40;
+        const size_t numbers_length = KNOB_NUMBERS(40, 7), indices_length = KNOB_INDICES(40, 7), cap = 12;
+        const uint64_t seed = 0x7F2BA34D7BA521E7u;
+        const uint32_t edition = 2, capped = 1;
+        const double allowance = 0.03125;
+        static const struct left left[] = {{1, 0x3FC948B0FCD6E9E0u}, {3, 0x3FAF9ADD3C0CA457u}, {8, 0x3FAF9ADD3C0CA457u},
+                                           {9, 0x3FBF9ADD3C0CA457u}, {14, 0x3FAF9ADD3C0CA457u}, {27, 0xBFB948B0FCD6E9E0u},
+                                           {36, 0x3FCF9ADD3C0CA457u}, {37, 0xBFC2F684BDA12F68u}};
+        lend();
+        hold("knob_sparsify_within by edition 2, its record", answers(CALL_knob_sparsify_within, KNOB_ACCEPTED, 2, 8, 0x3FD20EFBF9223017u));
+        hold("knob_sparsify_within by edition 2", thinned(m, left, 8) && wiped(numbers_length, indices_length));
+    }
+    { /* The edition is tested after the allowance, and before the sizes. */
+        const size_t m = 257, n = 5, matrix_length = 6, weights_length = 7, output_length = 8;
+        const size_t numbers_length = 9, indices_length = 10, cap = 11;
+        const uint64_t seed = 12;
+        const uint32_t edition = 0, capped = 1;
+        double allowance = 0.5;
+        lend();
+        hold("knob_sparsify_within, no such edition", answers(CALL_knob_sparsify_within, KNOB_REFUSED_EDITION, 0, 0, 0) && untouched());
+        allowance = -1.0;
+        hold("knob_sparsify_within, no allowance", answers(CALL_knob_sparsify_within, KNOB_REFUSED_ALLOWANCE, 0, 0, 0) && untouched());
+    }
     { /* C2 */
         const size_t m = 2, n = 2, matrix_length = 4, weights_length = 2, output_length = 2;
         const size_t numbers_length = KNOB_NUMBERS(2, 2), indices_length = KNOB_INDICES(2, 2), cap = 1;
         const uint64_t seed = 5;
-        const uint32_t capped = 0;
+        const uint32_t edition = 1, capped = 0;
         const double allowance = number(0x3FDFFFFFFFFFFFFFu);
         static const struct left left[] = {{0, 0x3FD0000000000000u}, {1, 0x3FE8000000000000u}};
         memcpy(matrix_room, (double[]){1.0, 1.0, 1.0, -1.0}, 4 * sizeof(double));
@@ -184,7 +248,7 @@ static void sparsify_within(void) {
         const size_t m = 257, n = 5, matrix_length = 6, weights_length = 7, output_length = 8;
         const size_t numbers_length = 9, indices_length = 10, cap = 11;
         const uint64_t seed = 12;
-        const uint32_t capped = 1;
+        const uint32_t edition = 2, capped = 1;
         const double allowance = 0.5;
         lend();
         hold("knob_sparsify_within, refused", answers(CALL_knob_sparsify_within, KNOB_REFUSED_SIZE, 0, 0, 0) && untouched());

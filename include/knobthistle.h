@@ -5,7 +5,9 @@
    for every argument. Each was proved to do what is said here. It is thread-safe: nothing is kept between calls, and calls may run side
    by side as long as what one of them writes is lent to no other.
 
-   A draw's bits are the same on every machine: nothing is left to the platform's mathematical library. They are draw edition 1. */
+   A draw's bits are the same on every machine: nothing is left to the platform's mathematical library. There are two draw editions:
+   1, which shipped ensembles name, and 2, whose uniform numbers stay strictly between 0 and 1. A thinning takes either; a colouring
+   called by itself draws by 1. */
 
 #ifndef KNOBTHISTLE_H
 #define KNOBTHISTLE_H
@@ -29,6 +31,11 @@ double knob_uniform(uint64_t *state);
    Moves the state on by two outputs. */
 double knob_gaussian(uint64_t *state);
 
+/* The same draws by edition 2: N = output >> 12, N + 0.5, over 2^52. Both operations are exact, and the number is an odd multiple of
+   2^-53 strictly between 0 and 1. (Its logarithm may still come out as +0.0: the rule gives it for the largest.) */
+double knob_uniform_2(uint64_t *state);
+double knob_gaussian_2(uint64_t *state);
+
 /* IEEE 754's square root: the double nearest to the root, ties to even. -0.0 gives -0.0, +infinity itself; a NaN and everything below
    zero give a NaN. */
 double knob_sqrt(double x);
@@ -36,10 +43,12 @@ double knob_sqrt(double x);
 /* The natural logarithm of the uniform number that this output of the generator gives. Never positive, and +0.0 where the uniform
    number is 1. Within 2^-40 of the series that fixes it. */
 double knob_log_draw(uint64_t word);
+double knob_log_draw_2(uint64_t word); /* by edition 2 */
 
 /* The cosine of t, t being the double TAU (bits 401921FB54442D18) times the uniform number that this output of the generator gives,
    rounded once. Within [-1, 1], and within 2^-45 of the cosine's series. */
 double knob_cos_draw(uint64_t word);
+double knob_cos_draw_2(uint64_t word); /* by edition 2 */
 
 /* ---- Thinning and colouring: what all calls share ----
 
@@ -53,12 +62,13 @@ double knob_cos_draw(uint64_t word);
    An accepted call leaves all of both zero, whatever their length. Matrix and weights are never changed.
 
    Each call answers a number: 0 accepted, else the first below that applies and that the call uses (enum knob_number has names).
-   The order is that of the tests: 12 stands between 1 and 2.
+   The order is that of the tests: 12 stands between 1 and 2, and 13 between 2 and 3.
 
      no.  given exactly when                                                      sparsify  within  coloring  change, turned
       1   the allowance is negative or a NaN (-0.0 is accepted)                                x
      12   the allowance is infinite (the largest finite one is accepted)                       x
       2   target or cap is 0                                                         x         x
+     13   the edition is neither 1 nor 2                                             x         x
       3   m > 256 or n > 4096                                                        x         x        x           x
       4   matrix, weights, second weights or output has another length               x         x        x           x
           than m and n say
@@ -91,7 +101,8 @@ enum knob_number {
     KNOB_REFUSED_WEIGHT = 8,
     KNOB_REFUSED_SUM = 9,
     KNOB_REFUSED_COLORING_ENTRY = 11,
-    KNOB_REFUSED_INFINITE_ALLOWANCE = 12
+    KNOB_REFUSED_INFINITE_ALLOWANCE = 12,
+    KNOB_REFUSED_EDITION = 13
 };
 
 #define KNOB_NUMBERS(m, n) ((size_t)(m) * ((size_t)(n) + 1) + (size_t)(m) * (size_t)(m) + 16 * (size_t)(m) + 8 * ((size_t)(n) + 1))
@@ -117,10 +128,11 @@ typedef struct {
 /* Thins weights to at most `target` nonzeros: the first stage that has no more. The weights are divided by the sum of their
    magnitudes (stage 0); each pass then keeps the largest third as it is and, of the rest, about a quarter, doubled twice, so that every
    row's margin, the sum of entry times weight over the columns, stays near what it was. Signs are kept, and a weight that is 0 stays 0.
-   The seed starts the generator, which runs on through all passes. The weights thinned are written to output, m of them. */
+   The seed starts the generator, which runs on through all passes and draws by the edition, 1 or 2. The weights thinned are written
+   to output, m of them. */
 #if !defined(__aarch64__) /* there, see the end */
 knob_answer knob_sparsify(const double *matrix, size_t matrix_length, size_t m, size_t n,
-                          const double *weights, size_t weights_length, uint64_t seed, size_t target,
+                          const double *weights, size_t weights_length, uint64_t seed, uint32_t edition, size_t target,
                           double *output, size_t output_length,
                           double *numbers, size_t numbers_length, uint32_t *indices, size_t indices_length);
 #endif
@@ -132,15 +144,15 @@ knob_answer knob_sparsify(const double *matrix, size_t matrix_length, size_t m, 
    again. If capped is 0 there is no cap, and the value of cap does not matter. */
 #if !defined(__aarch64__) /* there, see the end */
 knob_answer knob_sparsify_within(const double *matrix, size_t matrix_length, size_t m, size_t n,
-                                 const double *weights, size_t weights_length, uint64_t seed,
+                                 const double *weights, size_t weights_length, uint64_t seed, uint32_t edition,
                                  double allowance, uint32_t capped, size_t cap,
                                  double *output, size_t output_length,
                                  double *numbers, size_t numbers_length, uint32_t *indices, size_t indices_length);
 #endif
 
 /* A signing of the columns by 1 and -1 (m of them, written to output) that tries to keep every row's sum of entry times sign small.
-   Entries may be any doubles up to 2^32 in magnitude. The seed starts the generator. Answers 0, 3, 4, 6 or 11. No columns or no rows are
-   fine. */
+   Entries may be any doubles up to 2^32 in magnitude. The seed starts the generator, which draws by edition 1. Answers 0, 3, 4, 6
+   or 11. No columns or no rows are fine. */
 #if !defined(__aarch64__) /* there, see the end */
 knob_colored knob_discrepancy_coloring(const double *matrix, size_t matrix_length, size_t m, size_t n, uint64_t seed,
                                        int8_t *output, size_t output_length,
@@ -163,12 +175,13 @@ uint64_t knob_turned_words(const double *matrix, size_t matrix_length, size_t m,
                            const double *thresholds, size_t thresholds_length, uint64_t *count);
 
 /* The answer of a sheet: text bytes in, answer bytes out. The first line of a sheet is `thin`, m (at most 32), n (at most 64), the seed,
-   and then `target` and a count, or `within`, an allowance, and a cap or `-`; then there is a line for each column: `col`, its weight
-   and its n entries. Fields are parted by single tabs, every line ends in a newline, doubles and the seed are the 16 upper-case hex
-   digits of their bits, counts are decimal without leading zeros and at most 4294967295. The answer is `ok`, stage, nonzeros and
-   change and then a line `w`, index, weight for each column; or `refused` and the number; or `bad` and the number of the first line
-   that is off the form, from 1. Any bytes may be given. Returns how many bytes were written to answer; where the answer is longer than
-   answer_length, 0, and nothing is written. KNOB_SHEET_ANSWER bytes are enough for every answer. Uses about 80 KiB of stack. */
+   and then `target` and a count, or `within`, an allowance, and a cap or `-`, and for edition 2 a last field `2`; then there is a
+   line for each column: `col`, its weight and its n entries. Fields are parted by single tabs, every line ends in a newline,
+   doubles and the seed are the 16 upper-case hex digits of their bits, counts are decimal without leading zeros and at most
+   4294967295. The answer is `ok`, stage, nonzeros and change and then a line `w`, index, weight for each column; or `refused` and
+   the number; or `bad` and the number of the first line that is off the form, from 1. Any bytes may be given. Returns how many
+   bytes were written to answer; where the answer is longer than answer_length, 0, and nothing is written. KNOB_SHEET_ANSWER bytes
+   are enough for every answer. Uses about 80 KiB of stack. */
 #define KNOB_SHEET_ANSWER 1342
 size_t knob_thin_sheet(const uint8_t *text, size_t text_length, uint8_t *answer, size_t answer_length);
 
@@ -194,11 +207,11 @@ knob_colored *knob_discrepancy_coloring(knob_colored *answer, const double *matr
                                         int8_t *output, size_t output_length,
                                         double *numbers, size_t numbers_length, uint32_t *indices, size_t indices_length);
 knob_answer *knob_sparsify(knob_answer *answer, const double *matrix, size_t matrix_length, size_t m, size_t n,
-                           const double *weights, size_t weights_length, uint64_t seed, size_t target,
+                           const double *weights, size_t weights_length, uint64_t seed, uint32_t edition, size_t target,
                            double *output, size_t output_length,
                            double *numbers, size_t numbers_length, uint32_t *indices, size_t indices_length);
 knob_answer *knob_sparsify_within(knob_answer *answer, const double *matrix, size_t matrix_length, size_t m, size_t n,
-                                  const double *weights, size_t weights_length, uint64_t seed,
+                                  const double *weights, size_t weights_length, uint64_t seed, uint32_t edition,
                                   double allowance, uint32_t capped, size_t cap,
                                   double *output, size_t output_length,
                                   double *numbers, size_t numbers_length, uint32_t *indices, size_t indices_length);
@@ -213,21 +226,21 @@ static inline knob_colored knob_discrepancy_coloring_returned(const double *matr
 }
 
 static inline knob_answer knob_sparsify_returned(const double *matrix, size_t matrix_length, size_t m, size_t n,
-                                                 const double *weights, size_t weights_length, uint64_t seed, size_t target,
+                                                 const double *weights, size_t weights_length, uint64_t seed, uint32_t edition, size_t target,
                                                  double *output, size_t output_length,
                                                  double *numbers, size_t numbers_length, uint32_t *indices, size_t indices_length) {
     knob_answer answer;
-    return *knob_sparsify(&answer, matrix, matrix_length, m, n, weights, weights_length, seed, target, output, output_length,
+    return *knob_sparsify(&answer, matrix, matrix_length, m, n, weights, weights_length, seed, edition, target, output, output_length,
                           numbers, numbers_length, indices, indices_length);
 }
 
 static inline knob_answer knob_sparsify_within_returned(const double *matrix, size_t matrix_length, size_t m, size_t n,
-                                                        const double *weights, size_t weights_length, uint64_t seed,
+                                                        const double *weights, size_t weights_length, uint64_t seed, uint32_t edition,
                                                         double allowance, uint32_t capped, size_t cap,
                                                         double *output, size_t output_length,
                                                         double *numbers, size_t numbers_length, uint32_t *indices, size_t indices_length) {
     knob_answer answer;
-    return *knob_sparsify_within(&answer, matrix, matrix_length, m, n, weights, weights_length, seed, allowance, capped, cap,
+    return *knob_sparsify_within(&answer, matrix, matrix_length, m, n, weights, weights_length, seed, edition, allowance, capped, cap,
                                  output, output_length, numbers, numbers_length, indices, indices_length);
 }
 

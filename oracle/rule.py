@@ -1,4 +1,4 @@
-"""The draw's rule, edition 1, on whole numbers of any size: written from docs/DRAW.md and document 01, and from no code of ours.
+"""The draw's rule, both editions, on whole numbers of any size: written from docs/DRAW.md and documents 01 and 02, and from no code of ours.
 
 A double is handled as its 64 bits. `nearest` is the only rounding, from an exact fraction.
 """
@@ -45,15 +45,19 @@ def fraction(bits):
     return (top << exponent, 1) if exponent >= 0 else (top, 1 << -exponent)
 
 
-def uniform(word):
-    half = nearest(2 * (word >> 11) + 1, 2)
+BITS = {1: 53, 2: 52}  # of an output, by the edition
+
+
+def uniform(word, edition):
+    bits = BITS[edition]
+    half = nearest(2 * (word >> 64 - bits) + 1, 2)
     top, bottom = fraction(half)
-    return nearest(top, bottom << 53)
+    return nearest(top, bottom << bits)
 
 
-def angle(word):
+def angle(word, edition):
     """TAU times the uniform of an output, rounded once."""
-    (a, b), (c, d) = fraction(TAU), fraction(uniform(word))
+    (a, b), (c, d) = fraction(TAU), fraction(uniform(word, edition))
     return nearest(a * c, b * d)
 
 
@@ -61,8 +65,8 @@ def high(x, y):
     return x * y >> 64
 
 
-def cosine(word):
-    bits = angle(word)
+def cosine(word, edition):
+    bits = angle(word, edition)
     field, digits = bits >> 52, bits % (1 << 52)
     t = (digits + (1 << 52) << field) >> 1014
     z = high(t, t)
@@ -74,8 +78,8 @@ def cosine(word):
     return nearest(total, 1 << 51)
 
 
-def logarithm(word):
-    bits = uniform(word)
+def logarithm(word, edition):
+    bits = uniform(word, edition)
     field, digits = bits >> 52, bits % (1 << 52)
     q = (digits << 50) // (digits + (1 << 53))
     s = q << 14
@@ -107,7 +111,7 @@ def product(left, right):
     return sign if a * c == 0 else nearest(a * c, b * d)
 
 
-def gaussian(first, second):
+def gaussian(first, second, edition):
     """The Gaussian of two outputs, in the order in which they are drawn."""
     minus_two = 0xC000000000000000
-    return product(root(product(minus_two, logarithm(first))), cosine(second))
+    return product(root(product(minus_two, logarithm(first, edition))), cosine(second, edition))

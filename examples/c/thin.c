@@ -32,11 +32,12 @@ int main(void) {
 
     /* Lengths are counted in elements, not in bytes. */
     const uint64_t seed = 0;
+    const uint32_t edition = 1; /* of the draws: 1, or 2 */
     const double allowance = 0.5;
     const uint32_t capped = 0; /* there is no cap, so its value does not matter */
     const size_t cap = 0;
-    const knob_answer answer = knob_sparsify_within(matrix, M * N, M, N, weights, M, seed, allowance, capped, cap, output, M, numbers,
-                                                    numbers_length, indices, indices_length);
+    const knob_answer answer = knob_sparsify_within(matrix, M * N, M, N, weights, M, seed, edition, allowance, capped, cap, output, M,
+                                                    numbers, numbers_length, indices, indices_length);
     free(numbers);
     free(indices);
 

@@ -26,6 +26,7 @@ fn main() {
             weights.as_ptr(),
             weights.len(),
             0,
+            1,
             0.5,
             0,
             0,

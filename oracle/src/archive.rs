@@ -1,4 +1,4 @@
-// needs: knob_uniform knob_gaussian
+// needs: knob_uniform knob_gaussian knob_gaussian_2
 //! The archive of jobs that the gate replays: what the original answers for each line of archive.tsv (columns, rows, kind of entries, kind
 //! of weights, seed, and `target` or `within` with its numbers), beside the stored output of the program. Arguments: the list, and that output.
 //! With --write in front the output is written anew.
@@ -60,7 +60,7 @@ fn line(job: &str) -> String {
         }
     };
     let columns: Vec<Vec<f64>> = matrix.chunks(n).map(<[f64]>::to_vec).collect();
-    let e = Ensemble { matrix, m, n, weights, seed };
+    let e = Ensemble { matrix, m, n, weights, seed, edition: 1 };
     let refused = refusal(&e, rule, m, usize::MAX, usize::MAX);
     if refused != 0 {
         return text(refused, 0, &[], 0, 0.0, &vec![0.0; m]);

@@ -1,4 +1,4 @@
-// needs: knob_gaussian knob_discrepancy_coloring
+// needs: knob_gaussian knob_gaussian_2 knob_discrepancy_coloring
 //! Colourings: the archive's against the original's with our draw, and every refusal against a table written here. Output, scratch
 //! and what lies beside them are compared element by element.
 

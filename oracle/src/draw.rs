@@ -1,7 +1,7 @@
-// needs: knob_uniform knob_gaussian knob_sqrt knob_log_draw knob_cos_draw
-//! The draw: square root against the machine's, generator and uniform against a second writing of them, the Gaussian against its
-//! parts, and the fixed vectors. It also writes logarithms and cosines to a file, for `exact` to hold to document 01's bounds.
-//! Arguments: the file of vectors to read, the file of logarithms and cosines to write.
+// needs: knob_uniform knob_uniform_2 knob_gaussian knob_gaussian_2 knob_sqrt knob_log_draw knob_log_draw_2 knob_cos_draw knob_cos_draw_2
+//! The draw: square root against the machine's; and of each edition generator and uniform against a second writing of them, the Gaussian
+//! against its parts, and the fixed vectors. It also writes logarithms and cosines to a file, for `exact` to hold to document 01's bounds.
+//! Arguments, for edition 1 and then for 2: the file of vectors to read, the file of logarithms and cosines to write.
 
 #[path = "shared/chance.rs"]
 mod chance;
@@ -10,41 +10,55 @@ mod draws;
 #[path = "shared/tally.rs"]
 mod tally;
 
+use chance::splitmix::{state_before, step, GAMMA};
 use chance::{count, Chance};
 use draws::*;
 use std::fmt::Write;
 use tally::{end, Tally};
 
-const GAMMA: u64 = 0x9E37_79B9_7F4A_7C15;
-const FIRST: u64 = 0xBF58_476D_1CE4_E5B9;
-const SECOND: u64 = 0x94D0_49BB_1331_11EB;
-
-/// The generator on 128 bits: the state after, and the output.
-fn step(state: u64) -> (u64, u64) {
-    let modulo = |x: u128| x % (1 << 64);
-    let next = modulo(u128::from(state) + u128::from(GAMMA));
-    let a = modulo((next ^ (next / (1 << 30))) * u128::from(FIRST));
-    let b = modulo((a ^ (a / (1 << 27))) * u128::from(SECOND));
-    (next as u64, (b ^ (b / (1 << 31))) as u64)
+/// An edition of the draw: how many bits of an output its uniform takes, and its calls.
+struct Edition {
+    bits: u64,
+    uniform: unsafe extern "C" fn(*mut u64) -> f64,
+    gaussian: unsafe extern "C" fn(*mut u64) -> f64,
+    log: unsafe extern "C" fn(u64) -> f64,
+    cos: unsafe extern "C" fn(u64) -> f64,
+    /// What its comparisons are called.
+    names: [&'static str; 5],
 }
 
-/// The state from which the next output is this one.
-fn state_before(output: u64) -> u64 {
-    let unshift = |z: u64, by: u32| (0..64 / by).fold(z, |x, _| z ^ (x >> by));
-    // Newton's rule for an odd number's inverse modulo 2^64 doubles the right digits each time.
-    let inverse = |x: u64| (0..6).fold(x, |i, _| i.wrapping_mul(2u64.wrapping_sub(x.wrapping_mul(i))));
-    let a = unshift(output, 31).wrapping_mul(inverse(SECOND));
-    let b = unshift(a, 27).wrapping_mul(inverse(FIRST));
-    unshift(b, 30).wrapping_sub(GAMMA)
-}
+const EDITIONS: [Edition; 2] = [
+    Edition {
+        bits: 53,
+        uniform: knob_uniform,
+        gaussian: knob_gaussian,
+        log: knob_log_draw,
+        cos: knob_cos_draw,
+        names: ["uniform", "state after a uniform", "gaussian", "state after a gaussian", "vectors"],
+    },
+    Edition {
+        bits: 52,
+        uniform: knob_uniform_2,
+        gaussian: knob_gaussian_2,
+        log: knob_log_draw_2,
+        cos: knob_cos_draw_2,
+        names: [
+            "uniform of edition 2",
+            "state after a uniform of edition 2",
+            "gaussian of edition 2",
+            "state after a gaussian of edition 2",
+            "vectors of edition 2",
+        ],
+    },
+];
 
-/// The uniform of an output, by its digits: (2N + 1)/2^54, rounded to 53 digits, ties to even.
-fn uniform_of(output: u64) -> f64 {
-    let odd = 2 * (output >> 11) + 1;
+/// The uniform of an output, by its digits: (2N + 1)/2^(bits + 1), rounded to 53 digits, ties to even.
+fn uniform_of(output: u64, bits: u64) -> f64 {
+    let odd = 2 * (output >> (64 - bits)) + 1;
     let digits = if odd >= 1 << 53 { (odd >> 1) + ((odd >> 1) & 1) << 1 } else { odd };
     let length = 64 - u64::from(digits.leading_zeros());
     let fraction = if length > 53 { digits >> (length - 53) } else { digits << (53 - length) };
-    f64::from_bits(((1023 + length - 1 - 54) << 52) + (fraction - (1 << 52)))
+    f64::from_bits(((1023 + length - 1 - (bits + 1)) << 52) + (fraction - (1 << 52)))
 }
 
 /// Outputs where something can go wrong: the ends, powers of two and their neighbours, eighths of the turn, and low digits set.
@@ -110,13 +124,13 @@ fn square_roots(chance: &mut Chance) -> Tally {
     tally
 }
 
-fn uniforms(chance: &mut Chance, edges: &[u64]) -> (Tally, Tally) {
-    let (mut values, mut states) = (Tally::new("uniform"), Tally::new("state after a uniform"));
+fn uniforms(edition: &Edition, chance: &mut Chance, edges: &[u64]) -> [Tally; 2] {
+    let (mut values, mut states) = (Tally::new(edition.names[0]), Tally::new(edition.names[1]));
     let mut test = |state: u64| {
         let mut moved = state;
-        let ours = unsafe { knob_uniform(&mut moved) };
+        let ours = unsafe { (edition.uniform)(&mut moved) };
         let (next, output) = step(state);
-        values.doubles(ours, uniform_of(output), || format!("uniform from {state:016X}"));
+        values.doubles(ours, uniform_of(output, edition.bits), || format!("uniform from {state:016X}"));
         states.note(moved == next, || format!("{state:016X} moved to {moved:016X}, expected {next:016X}"));
     };
     for near in 0..1000 {
@@ -129,17 +143,17 @@ fn uniforms(chance: &mut Chance, edges: &[u64]) -> (Tally, Tally) {
     for _ in 0..count(100_000) {
         test(chance.word());
     }
-    (values, states)
+    [values, states]
 }
 
-fn gaussians(chance: &mut Chance, edges: &[u64]) -> (Tally, Tally) {
-    let (mut values, mut states) = (Tally::new("gaussian"), Tally::new("state after a gaussian"));
+fn gaussians(edition: &Edition, chance: &mut Chance, edges: &[u64]) -> [Tally; 2] {
+    let (mut values, mut states) = (Tally::new(edition.names[2]), Tally::new(edition.names[3]));
     let mut test = |state: u64| {
         let mut moved = state;
-        let ours = unsafe { knob_gaussian(&mut moved) };
+        let ours = unsafe { (edition.gaussian)(&mut moved) };
         let (between, first) = step(state);
         let (next, second) = step(between);
-        let expected = (-2.0 * unsafe { knob_log_draw(first) }).sqrt() * unsafe { knob_cos_draw(second) };
+        let expected = (-2.0 * unsafe { (edition.log)(first) }).sqrt() * unsafe { (edition.cos)(second) };
         values.doubles(ours, expected, || format!("gaussian from {state:016X}"));
         states.note(moved == next, || format!("{state:016X} moved to {moved:016X}, expected {next:016X}"));
     };
@@ -150,23 +164,23 @@ fn gaussians(chance: &mut Chance, edges: &[u64]) -> (Tally, Tally) {
     for _ in 0..count(1_000_000) {
         test(chance.word());
     }
-    (values, states)
+    [values, states]
 }
 
 /// The lines of `vectors`: state, two outputs, their uniforms, logarithm, cosine, Gaussian, state after.
-fn vectors(path: &str) -> Tally {
-    let mut tally = Tally::new("vectors");
+fn vectors(edition: &Edition, path: &str) -> Tally {
+    let mut tally = Tally::new(edition.names[4]);
     let text = std::fs::read_to_string(path).expect("the file of vectors");
     for line in text.lines() {
         let fields: Vec<u64> = line.split('\t').map(|f| u64::from_str_radix(f, 16).expect("hex digits")).collect();
         let (mut by_uniform, mut by_gaussian) = (fields[0], fields[0]);
         let ours = unsafe {
             [
-                knob_uniform(&mut by_uniform).to_bits(),
-                knob_uniform(&mut by_uniform).to_bits(),
-                knob_log_draw(fields[1]).to_bits(),
-                knob_cos_draw(fields[2]).to_bits(),
-                knob_gaussian(&mut by_gaussian).to_bits(),
+                (edition.uniform)(&mut by_uniform).to_bits(),
+                (edition.uniform)(&mut by_uniform).to_bits(),
+                (edition.log)(fields[1]).to_bits(),
+                (edition.cos)(fields[2]).to_bits(),
+                (edition.gaussian)(&mut by_gaussian).to_bits(),
                 by_gaussian,
             ]
         };
@@ -176,7 +190,7 @@ fn vectors(path: &str) -> Tally {
 }
 
 /// Writes an output, its logarithm and its cosine to a line each.
-fn write_draws(chance: &mut Chance, edges: &[u64], path: &str) {
+fn write_draws(edition: &Edition, chance: &mut Chance, edges: &[u64], path: &str) {
     let mut words = edges.to_vec();
     while words.len() < count(24_000) {
         let word = chance.word();
@@ -184,7 +198,7 @@ fn write_draws(chance: &mut Chance, edges: &[u64], path: &str) {
     }
     let mut text = String::new();
     for word in words {
-        let (log, cos) = unsafe { (knob_log_draw(word), knob_cos_draw(word)) };
+        let (log, cos) = unsafe { ((edition.log)(word), (edition.cos)(word)) };
         writeln!(text, "{word:016X} {:016X} {:016X}", log.to_bits(), cos.to_bits()).expect("a line");
     }
     std::fs::write(path, text).expect("the file of logarithms and cosines");
@@ -194,10 +208,12 @@ fn main() {
     let words: Vec<String> = std::env::args().collect();
     let mut chance = Chance::new("draw", 1);
     let edges = edge_words();
-    write_draws(&mut chance, &edges, &words[2]);
-    let roots = square_roots(&mut chance);
-    let (uniform, uniform_states) = uniforms(&mut chance, &edges);
-    let (gaussian, gaussian_states) = gaussians(&mut chance, &edges);
-    let fixed = vectors(&words[1]);
-    end(&[&roots, &uniform, &uniform_states, &gaussian, &gaussian_states, &fixed])
+    let mut all = vec![square_roots(&mut chance)];
+    for (edition, files) in EDITIONS.iter().zip(words[1..].chunks(2)) {
+        write_draws(edition, &mut chance, &edges, &files[1]);
+        all.extend(uniforms(edition, &mut chance, &edges));
+        all.extend(gaussians(edition, &mut chance, &edges));
+        all.push(vectors(edition, &files[0]));
+    }
+    end(&all.iter().collect::<Vec<_>>())
 }

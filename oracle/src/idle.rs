@@ -1,4 +1,4 @@
-// needs: knob_gaussian
+// needs: knob_gaussian knob_gaussian_2
 //! Looks for a step that freezes nothing in the original's colourings, a million of them, with tiny weights and tiny entries among
 //! them. Where a colouring has at most 60 columns, or no entry below 2^-480 but zeros, it is proved that there is none: one found
 //! there differs. The others are told: what froze nothing, where a NaN arose, and how large a direction became.

@@ -1,4 +1,4 @@
-// needs: knob_gaussian knob_max_margin_change knob_turned_words
+// needs: knob_gaussian knob_gaussian_2 knob_max_margin_change knob_turned_words
 //! The change of margins against the original's, turned words against a second writing of document 02's count, refusals of both
 //! against a table written here. Both calls take any doubles, so infinities and NaNs are among them.
 

@@ -1,4 +1,4 @@
-// needs: knob_gaussian knob_sparsify knob_sparsify_within knob_thin_sheet
+// needs: knob_gaussian knob_gaussian_2 knob_sparsify knob_sparsify_within knob_thin_sheet
 //! Sheets: the answers of the archive's call on sheets, byte for byte, against answers written by hand, against a second reader and
 //! writer of the form with the original's answer, and against the archive's own thinning calls; good sheets, refused ones, and sheets
 //! with each kind of fault in some line. Buffers that are too short must stay as they were, and so must all that lies beyond an answer.
@@ -60,19 +60,24 @@ fn bits(field: &[u8]) -> Option<u64> {
     })
 }
 
-fn first_line(line: &[u8]) -> Option<(usize, usize, u64, Rule)> {
+fn first_line(line: &[u8]) -> Option<(usize, usize, u64, Rule, u32)> {
     let fields: Vec<&[u8]> = line.split(|byte| *byte == b'\t').collect();
     if fields.len() < 5 || fields[0] != b"thin" {
         return None;
     }
     let (m, n, seed) = (a_count(fields[1])?, a_count(fields[2])?, bits(fields[3])?);
-    let rule = match (fields[4], &fields[5..]) {
-        (b"target", [target]) => Rule::Target(a_count(target)?),
-        (b"within", [allowance, b"-"]) => Rule::Within(f64::from_bits(bits(allowance)?), None),
-        (b"within", [allowance, cap]) => Rule::Within(f64::from_bits(bits(allowance)?), Some(a_count(cap)?)),
+    let (rule, last) = match (fields[4], &fields[5..]) {
+        (b"target", [target, last @ ..]) => (Rule::Target(a_count(target)?), last),
+        (b"within", [allowance, b"-", last @ ..]) => (Rule::Within(f64::from_bits(bits(allowance)?), None), last),
+        (b"within", [allowance, cap, last @ ..]) => (Rule::Within(f64::from_bits(bits(allowance)?), Some(a_count(cap)?)), last),
         _ => return None,
     };
-    (m <= 32 && n <= 64).then_some((m, n, seed, rule))
+    let edition = match last {
+        [] => 1,
+        [b"2"] => 2,
+        _ => return None,
+    };
+    (m <= 32 && n <= 64).then_some((m, n, seed, rule, edition))
 }
 
 /// The doubles of a line of a column: its weight and its entries.
@@ -89,8 +94,8 @@ fn read(sheet: &[u8]) -> Result<(Ensemble, Rule), usize> {
     // What follows the last newline is a line without an end, and wrong if there is any of it.
     let mut lines: Vec<&[u8]> = sheet.split(|byte| *byte == b'\n').collect();
     let rest = lines.pop().unwrap_or(b"");
-    let (m, n, seed, rule) = lines.first().and_then(|line| first_line(line)).ok_or(1usize)?;
-    let mut e = Ensemble { matrix: Vec::new(), m, n, weights: Vec::new(), seed };
+    let (m, n, seed, rule, edition) = lines.first().and_then(|line| first_line(line)).ok_or(1usize)?;
+    let mut e = Ensemble { matrix: Vec::new(), m, n, weights: Vec::new(), seed, edition };
     for number in 2..m + 2 {
         let numbers = lines.get(number - 1).and_then(|line| column(line, n)).ok_or(number)?;
         e.weights.push(numbers[0]);
@@ -139,6 +144,7 @@ fn by_calls(e: &Ensemble, rule: Rule) -> String {
                 e.weights.as_ptr(),
                 e.weights.len(),
                 e.seed,
+                e.edition,
                 target,
                 output.as_mut_ptr(),
                 output.len(),
@@ -156,6 +162,7 @@ fn by_calls(e: &Ensemble, rule: Rule) -> String {
                 e.weights.as_ptr(),
                 e.weights.len(),
                 e.seed,
+                e.edition,
                 allowance,
                 u32::from(cap.is_some()),
                 cap.unwrap_or(0),
@@ -274,6 +281,17 @@ const BY_HAND: &[(&str, &str)] = &[
     ("thin\t0\t0\t0000000000000000\ttarget\t4294967295\n", "refused\t5\n"),
     ("thin\t0\t0\t0000000000000000\ttarget\t4294967296\n", "bad\t1\n"),
     ("thin\t0\t0\t0000000000000000\ttarget\t1\n\n", "bad\t2\n"),
+    ("thin\t0\t0\t0000000000000000\ttarget\t1\t2\n", "refused\t5\n"),
+    ("thin\t0\t0\t0000000000000000\ttarget\t1\t1\n", "bad\t1\n"),
+    ("thin\t0\t0\t0000000000000000\ttarget\t1\t3\n", "bad\t1\n"),
+    ("thin\t0\t0\t0000000000000000\ttarget\t1\t02\n", "bad\t1\n"),
+    ("thin\t0\t0\t0000000000000000\ttarget\t1\t\n", "bad\t1\n"),
+    ("thin\t0\t0\t0000000000000000\ttarget\t1\t2", "bad\t1\n"),
+    ("thin\t0\t0\t0000000000000000\ttarget\t1\t2\t2\n", "bad\t1\n"),
+    ("thin\t0\t0\t0000000000000000\ttarget\t2\n", "refused\t5\n"),
+    ("thin\t0\t0\t0000000000000000\twithin\t0000000000000000\t2\n", "refused\t5\n"),
+    ("thin\t0\t0\t0000000000000000\twithin\t0000000000000000\t2\t2\n", "refused\t5\n"),
+    ("thin\t0\t0\t0000000000000000\twithin\t0000000000000000\t-\t1\n", "bad\t1\n"),
     ("thin\t0\t0\t0000000000000000\ttarget\t1\nx", "bad\t2\n"),
     ("thin\t0\t64\t0000000000000000\ttarget\t1\n", "refused\t5\n"),
     ("thin\t0\t65\t0000000000000000\ttarget\t1\n", "bad\t1\n"),
@@ -291,6 +309,11 @@ const BY_HAND: &[(&str, &str)] = &[
     ),
     (
         "thin\t2\t2\t0000000000000000\twithin\t3FE0000000000000\t-\ncol\t3FF0000000000000\t3FF0000000000000\t3FF0000000000000\n\
+         col\t4008000000000000\t3FF0000000000000\tBFF0000000000000\n",
+        "ok\t1\t1\t3FE0000000000000\nw\t0\t0000000000000000\nw\t1\t3FF0000000000000\n",
+    ),
+    (
+        "thin\t2\t2\t0000000000000000\twithin\t3FE0000000000000\t-\t2\ncol\t3FF0000000000000\t3FF0000000000000\t3FF0000000000000\n\
          col\t4008000000000000\t3FF0000000000000\tBFF0000000000000\n",
         "ok\t1\t1\t3FE0000000000000\nw\t0\t0000000000000000\nw\t1\t3FF0000000000000\n",
     ),
@@ -336,7 +359,8 @@ fn a_sheet(chance: &mut Chance) -> Vec<u8> {
             format!("within\t{:016X}\t{}", allowance.to_bits(), chance.pick(&["-", "0", "1", "3", "7", "4294967295"]))
         }
     };
-    let mut text = format!("thin\t{m}\t{n}\t{:016X}\t{rule}\n", chance.seed());
+    let edition = chance.pick(&["", "\t2"]);
+    let mut text = format!("thin\t{m}\t{n}\t{:016X}\t{rule}{edition}\n", chance.seed());
     for j in 0..m {
         let weight = match chance.below(12) {
             0 => chance.pick(&[0.0, -0.0, 5e-324, 1e300]),
@@ -406,7 +430,7 @@ fn spoil(sheet: &mut Vec<u8>, kind: usize, chance: &mut Chance) {
             }
         }
         8 => in_a_line(sheet, chance, |line, chance| {
-            line.extend_from_slice(chance.pick(&[b"\t".as_slice(), b"\t1", b"\t-", b"\t3FF0000000000000"]))
+            line.extend_from_slice(chance.pick(&[b"\t".as_slice(), b"\t1", b"\t2", b"\t-", b"\t3FF0000000000000"]))
         }),
         9 => in_a_line(sheet, chance, |line, _| line.truncate(line.iter().rposition(|byte| *byte == b'\t').unwrap_or(0))),
         10 => sheet.extend_from_slice(chance.pick(&[b"col\t0000000000000000\n".as_slice(), b"thin\n", b"x", b" ", b"\0", b"\t"])),
@@ -490,11 +514,12 @@ fn near(sheet: &[u8], mut test: impl FnMut(&[u8])) {
 }
 
 /// The sheets whose every neighbour is tried.
-const CENTRES: [&str; 3] = [
+const CENTRES: [&str; 4] = [
     "thin\t2\t2\t0000000000000000\twithin\t3FE0000000000000\t-\ncol\t3FF0000000000000\t3FF0000000000000\t3FF0000000000000\n\
      col\t4008000000000000\t3FF0000000000000\tBFF0000000000000\n",
     "thin\t1\t1\t0123456789ABCDEF\twithin\t0000000000000000\t10\ncol\t3FF0000000000000\t3FEFEDCBA9876543\n",
     "thin\t1\t0\t0123456789ABCDEF\ttarget\t4294967295\ncol\t3FF0000000000000\n",
+    "thin\t1\t1\t0123456789ABCDEF\ttarget\t7\t2\ncol\t3FF0000000000000\t3FEFEDCBA9876543\n",
 ];
 
 fn main() {

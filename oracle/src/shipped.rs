@@ -79,6 +79,7 @@ fn thinnings(how_many: usize, m: usize, n: usize, kind: Entries, chance: &mut Ch
                     weights.as_ptr(),
                     m,
                     seed,
+                    1,
                     TARGET,
                     output.as_mut_ptr(),
                     m,

@@ -101,7 +101,7 @@ fn all() -> Tally {
         let (w, out) = (weights.as_ptr(), output.as_mut_ptr());
         let (numbers, indices) = (numbers_at, indices_at);
         thinning_calls::knob_sparsify(
-            &mut answer, lent, length, m, n, w, m, 1, 4, out, m, numbers.0, numbers.1, indices.0, indices.1,
+            &mut answer, lent, length, m, n, w, m, 1, 1, 4, out, m, numbers.0, numbers.1, indices.0, indices.1,
         );
         answer.number
     });
@@ -109,7 +109,7 @@ fn all() -> Tally {
         let (w, out) = (weights.as_ptr(), output.as_mut_ptr());
         let (numbers, indices) = (numbers_at, indices_at);
         thinning_calls::knob_sparsify_within(
-            &mut answer, lent, length, m, n, w, m, 1, 0.1, 1, 4, out, m, numbers.0, numbers.1, indices.0, indices.1,
+            &mut answer, lent, length, m, n, w, m, 1, 1, 0.1, 1, 4, out, m, numbers.0, numbers.1, indices.0, indices.1,
         );
         answer.number
     });

@@ -1,7 +1,8 @@
-// needs: knob_gaussian knob_sparsify knob_sparsify_within
+// needs: knob_gaussian knob_gaussian_2 knob_sparsify knob_sparsify_within
 //! Thinning jobs: weights, stage, nonzeros and change against the original's own functions with our draw, every refusal against a
 //! table written here, and pairs of jobs on one ensemble and seed against each other: any two read one path, and of two whose rules are
-//! so ordered the second is no earlier and keeps what its rule asks. Argument: the folder of archived ensembles.
+//! so ordered the second is no earlier and keeps what its rule asks. Both editions of the draw. Arguments: the folder of archived
+//! ensembles; and `ignoring` to hand the library edition 1 for every job of edition 2, which has to come out unequal.
 
 #[path = "shared/chance.rs"]
 mod chance;
@@ -56,6 +57,7 @@ fn make(e: &Ensemble, rule: Rule, mut output: Lent<u64>, mut scratch: Scratch) -
                 weights,
                 e.weights.len(),
                 e.seed,
+                e.edition,
                 target,
                 to,
                 lengths,
@@ -73,6 +75,7 @@ fn make(e: &Ensemble, rule: Rule, mut output: Lent<u64>, mut scratch: Scratch) -
                 weights,
                 e.weights.len(),
                 e.seed,
+                e.edition,
                 allowance,
                 u32::from(cap.is_some()),
                 cap.unwrap_or(0),
@@ -108,7 +111,8 @@ impl Comparison {
         let mut all: Vec<Made> = Vec::new();
         for rule in rules {
             let made = make(e, *rule, Lent::new(e.m, || chance.word()), Scratch::enough(e.m, e.n, chance));
-            let name = || format!("{} columns, {} rows, seed {:016X}, {rule:?}: {:?}", e.m, e.n, e.seed, made.answer);
+            let name =
+                || format!("{} columns, {} rows, seed {:016X}, edition {}, {rule:?}: {:?}", e.m, e.n, e.seed, e.edition, made.answer);
             let (said, tally) = match self.domain.expect(|| by_stages(&columns, e, *rule)) {
                 Expected::Original(said) => {
                     self.original.note(said.agrees, &name);
@@ -157,7 +161,7 @@ impl Comparison {
                 let zeros = a.stage == 0 && a.nonzeros == 0 && a.change.to_bits() == 0 && a.has_path(&[]);
                 zeros && made.output.untouched() && made.scratch.untouched()
             };
-        self.refusals.note(right, || format!("{} columns, {} rows, {rule:?}: {a:?}, expected {expected}", e.m, e.n));
+        self.refusals.note(right, || format!("{} columns, {} rows, edition {}, {rule:?}: {a:?}, expected {expected}", e.m, e.n, e.edition));
     }
 }
 
@@ -228,8 +232,26 @@ fn weights(m: usize, chance: &mut Chance) -> Vec<f64> {
 }
 
 fn ensemble(m: usize, n: usize, chance: &mut Chance) -> Ensemble {
-    let kind = chance.below(matrices::MARGIN_KINDS);
-    Ensemble { matrix: matrices::matrix(kind, m, n, chance), m, n, weights: weights(m, chance), seed: chance.seed() }
+    let matrix = matrices::matrix(chance.below(matrices::MARGIN_KINDS), m, n, chance);
+    Ensemble { matrix, m, n, weights: weights(m, chance), seed: chance.seed(), edition: chance.pick(&[1, 2]) }
+}
+
+/// Jobs of edition 2 whose draws show the edition, and what the original says of them. `handed` is the edition that the library is told.
+fn parting(handed: u32, tally: &mut Tally, chance: &mut Chance) {
+    for _ in 0..count(1000).max(200) {
+        let (m, n) = (chance.between(20, 60), chance.between(10, 40));
+        let matrix = (0..m * n).map(|_| chance.signed()).collect();
+        let weights = (0..m).map(|_| chance.unit() + 0.5).collect();
+        let mut e = Ensemble { matrix, m, n, weights, seed: chance.small(), edition: 2 };
+        let rule = Rule::Target(chance.between(2, m / 4));
+        let said = by_stages(&matrices::columns(&e.matrix, m, n), &e, rule);
+        e.edition = handed;
+        let made = make(&e, rule, Lent::new(m, || chance.word()), Scratch::enough(m, n, chance));
+        let equal = made.answer.number == 0
+            && made.answer.has_path(&said.path)
+            && made.output.content().iter().copied().eq(said.weights.iter().map(|w| w.to_bits()));
+        tally.note(equal, || format!("{m} columns, {n} rows, seed {:016X}, {rule:?}", e.seed));
+    }
 }
 
 fn a_rule(m: usize, chance: &mut Chance) -> Rule {
@@ -271,7 +293,7 @@ fn spoiled(chance: &mut Chance) -> (Ensemble, Rule, Lent<u64>, Scratch) {
     let (mut output, (mut numbers, mut indices)) = (m, scratch_sizes(m, n));
     for _ in 0..chance.between(1, 3) {
         let near = |len: usize, chance: &mut Chance| chance.pick(&[len + 1, len.saturating_sub(1), 0, 2 * len + 3]);
-        match chance.below(14) {
+        match chance.below(15) {
             0 | 1 => {
                 rule = Rule::Within(
                     chance.pick(&[-1.0, f64::NAN, -f64::NAN, -5e-324, f64::NEG_INFINITY, f64::INFINITY]),
@@ -306,6 +328,7 @@ fn spoiled(chance: &mut Chance) -> (Ensemble, Rule, Lent<u64>, Scratch) {
                 let all = chance.pick(&[0.0, -0.0, f64::MAX, -f64::MAX]);
                 e.weights.iter_mut().for_each(|w| *w = all);
             }
+            14 => e.edition = chance.pick(&[0, 3, 4, 12, 1 << 31, u32::MAX, 2]),
             _ => {}
         }
     }
@@ -316,6 +339,11 @@ fn spoiled(chance: &mut Chance) -> (Ensemble, Rule, Lent<u64>, Scratch) {
 fn main() {
     let folder = std::env::args().nth(1).expect("the folder of archived ensembles");
     let mut chance = Chance::new("thinning", 3);
+    if std::env::args().nth(2).as_deref() == Some("ignoring") {
+        let mut ignoring = Tally::new("thinning, the edition ignored");
+        parting(1, &mut ignoring, &mut chance);
+        end(&[&ignoring]);
+    }
     let mut all = Comparison {
         domain: Domain::new(),
         answers: Tally::new("thinning"),
@@ -342,9 +370,18 @@ fn main() {
     large.weights = (0..256).map(|_| chance.unit() + 0.5).collect();
     all.jobs(&large, &[Rule::Target(4), Rule::Within(0.25, None)], &mut chance);
     for face in faces::faces(&folder) {
-        let e = Ensemble { matrix: face.margins, m: face.m, n: face.n, weights: face.weights, seed: chance.word() };
+        let e = Ensemble {
+            matrix: face.margins,
+            m: face.m,
+            n: face.n,
+            weights: face.weights,
+            seed: chance.word(),
+            edition: chance.pick(&[1, 2]),
+        };
         all.jobs(&e, &[Rule::Target(4), Rule::Target(16), Rule::Within(0.2, None), Rule::Within(0.05, Some(20))], &mut chance);
     }
+    let mut telling = Tally::new("thinning, jobs that show the edition");
+    parting(2, &mut telling, &mut chance);
     for _ in 0..count(6000) {
         let (e, rule, output, scratch) = spoiled(&mut chance);
         all.refused(&e, rule, output, scratch);
@@ -355,5 +392,5 @@ fn main() {
         all.refused(&e, Rule::Target(2), output, Scratch::enough(m, n, &mut chance));
     }
     all.domain.tell();
-    end(&[&all.answers, &all.outside, &all.original, &all.scratch, &all.inputs, &all.refusals, &all.paths, &all.pairs])
+    end(&[&all.answers, &all.outside, &all.original, &telling, &all.scratch, &all.inputs, &all.refusals, &all.paths, &all.pairs])
 }

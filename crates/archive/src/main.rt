@@ -399,7 +399,7 @@ fn make(matrix: &mut [f64], weights: &mut [f64], m: usize, n: usize, k: usize)
     requires { ⌜ (k < 37) × (m ≤ 64) ⌝ }
 {
     let seed = k as u64;
-    let rng = fill_entries(&mut matrix[..], ENTRIES[k], SplitMix64::new(seed));
+    let rng = fill_entries(&mut matrix[..], ENTRIES[k], SplitMix64::new(seed, 1));
     fill_weights(&mut weights[..], WEIGHTS[k], rng);
     let mut output = [0.0f64; 64];
     answer(&matrix[..], &weights[..], m, n, k, &mut output[..m]);
@@ -420,6 +420,7 @@ fn answer(matrix: &[f64], weights: &[f64], m: usize, n: usize, k: usize, output:
             n,
             weights,
             seed,
+            1,
             target,
             &mut output[..],
             &mut numbers[..],
@@ -433,6 +434,7 @@ fn answer(matrix: &[f64], weights: &[f64], m: usize, n: usize, k: usize, output:
             n,
             weights,
             seed,
+            1,
             allowance_of(ALLOWANCES[k]),
             cap_of(CAPS[k]),
             &mut output[..],

@@ -6,6 +6,7 @@ use lib.Ieee.{Float}
 use Rattle.seq.specs.Lists.{repeated}
 use Rattle.entries.specs.Rows.{firstRows}
 use Rattle.freeze.specs.Freeze.{Walk, blocking}
+use Rattle.draw.specs.declared.SplitMix64.{SplitMix64}
 
 -- the basis after the first k of some rows were blocked, in order
 unfoldable pub blockTo : Float → (ℕ → ℕ → Float) → ℕ → List ℕ → ℕ → List (List Float)
@@ -18,7 +19,7 @@ marksTo n rows zero = repeated 0 n
 marksTo n rows (suc k) = set (marksTo n rows k) (getD rows k 0) 1
 
 -- a phase's start at x and A x: every coordinate is free, and the first rows are blocked
-unfoldable pub begun : Float → (ℕ → ℕ → Float) → ℕ → ℕ → List Float → List Float → ℕ → Walk
+unfoldable pub begun : Float → (ℕ → ℕ → Float) → ℕ → ℕ → List Float → List Float → SplitMix64 → Walk
 begun z a l n x ax rng =
     let rows : List ℕ = firstRows z a l n ax in
     record {

@@ -38,6 +38,7 @@ fn thin_to(
         n,
         weights,
         seed,
+        1,
         target,
         output,
         &mut numbers[..],
@@ -64,6 +65,7 @@ fn thin_within(
         n,
         weights,
         seed,
+        1,
         allowance,
         Cap::Absent,
         output,
@@ -171,7 +173,7 @@ fn hundred(seed: u64) {
     let mut matrix = [0.0f64; 400];
     let mut weights = [0.0f64; 100];
     let mut output = [0.0f64; 100];
-    let rng = fill(&mut matrix[..], SplitMix64::new(seed));
+    let rng = fill(&mut matrix[..], SplitMix64::new(seed, 1));
     fill(&mut weights[..], rng);
     put(b"C9\tsupport 100, target 99, seed ");
     io::print_decimal(1, seed);
@@ -237,6 +239,7 @@ fn most_columns() {
         &weights[..],
         0,
         1,
+        1,
         &mut output[..],
         &mut numbers[..],
         &mut indices[..],
@@ -274,7 +277,7 @@ fn random_by(
 )
     requires { ⌜ m ≤ 16 ⌝ }
 {
-    let rng = fill(&mut matrix[..], SplitMix64::new(seed));
+    let rng = fill(&mut matrix[..], SplitMix64::new(seed, 1));
     fill(&mut weights[..], rng);
     by_target(&matrix[..], m, n, &weights[..], seed, target);
     by_allowance(&matrix[..], m, n, &weights[..], seed, allowance);

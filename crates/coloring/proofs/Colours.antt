@@ -29,6 +29,7 @@ use Rattle.walk.proofs.Counts.{run-keeps}
 use Rattle.coloring.proofs.Marked.{Colour, negated, rounded, picked, Sound, all-free, phase-keeps}
 use Rattle.coloring.proofs.Phases.{insideCourse, insidePhase, put, walk-settles}
 use Rattle.walk.specs.Walk.{freeOnes}
+use Rattle.draw.specs.declared.SplitMix64.{SplitMix64}
 
 -- ---- between two phases
 
@@ -71,7 +72,7 @@ pub record Standing (k : ℕ) (b : Between) : Type 0 where
   pub marks : length (b .free) ≡ k
 
 -- where the walk starts
-pub start-stands : (k : ℕ) (ax : List Float) (rng : ℕ) → Standing k
+pub start-stands : (k : ℕ) (ax : List Float) (rng : SplitMix64) → Standing k
     (record { x = repeated plusZero k; free = repeated 1 k; ax = ax; rng = rng; directions = 0 })
 start-stands k ax rng =
     record {
@@ -106,7 +107,7 @@ module _ (z : Float) (a : ℕ → ℕ → Float) (k n : ℕ) where
       marks : length (after .free) ≡ k
       marks = length-putBack 0 (keep (isSet (b .free)) k) (insidePhase z a k n b .free) (b .free) (length (keep (isSet (b .free)) k)) ∙ s .marks
 
-  pub walked-sound : (rng : ℕ) → Standing k (walked z a k n rng)
+  pub walked-sound : (rng : SplitMix64) → Standing k (walked z a k n rng)
   unfolding walked
   walked-sound rng = run-keeps (Standing k) settled (phased z a k n) (λ b _. phased-sound b) _ _ (start-stands k (repeated plusZero n) rng)
 
@@ -152,7 +153,7 @@ module _ (a : ℕ → ℕ → Float) (k : ℕ) where
 
 module _ (z : Float) (a : ℕ → ℕ → Float) (k n : ℕ) where
   -- at the walk's end each of the k coordinates has its colour
-  pub walk-colours : (rng : ℕ) → Coloured k (walked z a k n rng .x)
+  pub walk-colours : (rng : SplitMix64) → Coloured k (walked z a k n rng .x)
   walk-colours rng =
       let s : Standing k (walked z a k n rng) = walked-sound z a k n rng in
       let e : freeOnes (walked z a k n rng .free) ≡ 0 = eqb-true _ 0 (walk-settles z a k n rng) in
@@ -162,6 +163,6 @@ module _ (z : Float) (a : ℕ → ℕ → Float) (k n : ℕ) where
       }
 
   -- there are k colours, and each is 1.0 or -1.0
-  pub colours : (rng : ℕ) → Coloured k (coloringOf z a k n rng .x)
+  pub colours : (rng : SplitMix64) → Coloured k (coloringOf z a k n rng .x)
   unfolding coloringOf
   colours rng = searched-coloured a k k (walked z a k n rng .x) (times plusZero a k n (walked z a k n rng .x)) (walk-colours rng)

@@ -30,10 +30,12 @@ use Rattle.coloring.proofs.Marked.{ones, phase-total, phase-keeps}
 use Rattle.coloring.proofs.Phases.{put, marks-left, cleared, insideCourse, insidePhase}
 use Rattle.coloring.proofs.Colours.{Standing, phased-sound, start-stands}
 use Rattle.places.proofs.Places.{length-putBack}
+use Rattle.draw.specs.declared.SplitMix64.{SplitMix64}
+use Rattle.draw.specs.Gaussian.{afterGaussian}
 
 -- a Gaussian takes two outputs
-outputs-twice : (rng k : ℕ) → afterDraws rng k ≡ afterOutputs rng (2 * k)
-unfolding afterDraws afterOutputs
+outputs-twice : (rng : SplitMix64) (k : ℕ) → afterDraws rng k ≡ afterOutputs rng (2 * k)
+unfolding afterDraws afterOutputs afterGaussian
 outputs-twice rng zero = refl
 outputs-twice rng (suc k) =
     rw (outputs-twice rng k) (ap (afterOutputs rng) (let q : suc (suc (2 * k)) ≡ 2 * suc k = omega arith in q))
@@ -104,14 +106,14 @@ module _ (z : Float) (a : ℕ → ℕ → Float) (k n : ℕ) where
   -- ---- the whole walk
 
   -- what holds between two phases
-  record Counting (rng : ℕ) (b : Between) : Type 0 where
+  record Counting (rng : SplitMix64) (b : Between) : Type 0 where
     standing : Standing k b
     few : b .directions + 2 * freeOnes (b .free) ≤ 2 * k
     gaussians : ℕ
     most : gaussians ≤ k * b .directions
     stands : b .rng ≡ afterDraws rng gaussians
 
-  counting-turn : (rng : ℕ) (b : Between) → settled b ≡ false → Counting rng b → Counting rng (phased z a k n b)
+  counting-turn : (rng : SplitMix64) (b : Between) → settled b ≡ false → Counting rng b → Counting rng (phased z a k n b)
   counting-turn rng b s c =
       let l : ℕ = length (keep (isSet (b .free)) k) in
       let d : ℕ = insideCourse z a k n b .directions in
@@ -120,10 +122,10 @@ module _ (z : Float) (a : ℕ → ℕ → Float) (k n : ℕ) where
         few = omega (arith, c .few, phased-few b (c .standing .marks) s);
         gaussians = d * l + c .gaussians;
         most = rw (phased-directions b) (omega (arith, c .most, mul-le-mul (le-refl d) (keep-short (isSet (b .free)) k)));
-        stands = phased-draws b ∙ ap (λ (r : ℕ). afterDraws r (d * l)) (c .stands) ∙ draws-more rng (c .gaussians) (d * l);
+        stands = phased-draws b ∙ ap (λ (r : SplitMix64). afterDraws r (d * l)) (c .stands) ∙ draws-more rng (c .gaussians) (d * l);
       }
 
-  counted : (rng : ℕ) → Counting rng (walked z a k n rng)
+  counted : (rng : SplitMix64) → Counting rng (walked z a k n rng)
   unfolding walked afterDraws
   counted rng = run-keeps (Counting rng) settled (phased z a k n) (counting-turn rng) _ _
       (record { standing = start-stands k (repeated plusZero n) rng; few = omega (arith, ones k); gaussians = 0; most = omega arith; stands = refl })
@@ -131,12 +133,12 @@ module _ (z : Float) (a : ℕ → ℕ → Float) (k n : ℕ) where
   -- ---- the colouring of k columns
 
   -- at most 2 k directions
-  pub directions-most : (rng : ℕ) → coloringOf z a k n rng .directions ≤ 2 * k
+  pub directions-most : (rng : SplitMix64) → coloringOf z a k n rng .directions ≤ 2 * k
   unfolding coloringOf
   directions-most rng = omega (arith, counted rng .few)
 
   -- where the generator stands
-  pub moved : (rng : ℕ) → Moved k (coloringOf z a k n rng .directions) rng (coloringOf z a k n rng .rng)
+  pub moved : (rng : SplitMix64) → Moved k (coloringOf z a k n rng .directions) rng (coloringOf z a k n rng .rng)
   unfolding coloringOf
   moved rng =
       let c : Counting rng (walked z a k n rng) = counted rng in
@@ -148,13 +150,13 @@ module _ (z : Float) (a : ℕ → ℕ → Float) (k n : ℕ) where
       }
 
   -- so at most 2 k² Gaussians, and 4 k² outputs
-  pub gaussians-most : (rng : ℕ) → moved rng .gaussians ≤ 2 * (k * k)
+  pub gaussians-most : (rng : SplitMix64) → moved rng .gaussians ≤ 2 * (k * k)
   gaussians-most rng = omega (arith, moved rng .most, mul-le-mul (le-refl k) (directions-most rng))
 
-  pub outputs-most : (rng : ℕ) → 2 * moved rng .gaussians ≤ 4 * (k * k)
+  pub outputs-most : (rng : SplitMix64) → 2 * moved rng .gaussians ≤ 4 * (k * k)
   outputs-most rng = omega (arith, gaussians-most rng)
 
   -- at most 100 sweeps
-  pub sweeps-few : (rng : ℕ) → coloringOf z a k n rng .sweeps ≤ 100
+  pub sweeps-few : (rng : SplitMix64) → coloringOf z a k n rng .sweeps ≤ 100
   unfolding coloringOf
   sweeps-few rng = sweeps-most a k (walked z a k n rng .x) (times plusZero a k n (walked z a k n rng .x))

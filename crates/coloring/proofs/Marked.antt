@@ -30,6 +30,7 @@ use Rattle.walk.proofs.Counts.{run-keeps}
 use Rattle.places.proofs.Places.{off, count-all}
 use Rattle.begin.specs.Begin.{begun}
 use Rattle.walk.specs.Walk.{Stepped, drew, advanced, freeOnes, stepOf, steppedAlong, Course, further, ended, courseFrom, phaseOf}
+use Rattle.draw.specs.declared.SplitMix64.{SplitMix64}
 
 -- ---- one colour
 
@@ -177,7 +178,7 @@ module _ (z : Float) (a : ℕ → ℕ → Float) (l n : ℕ) where
   phase-kept w s = run-keeps (λ c. Kept l (c .walk)) (ended l) (further z a l n) (λ c _. step-kept (c .walk)) _ (start w) s
 
   -- where a phase begins, all is free
-  begun-kept : (x ax : List Float) (rng : ℕ) → length x ≡ l → Kept l (begun z a l n x ax rng)
+  begun-kept : (x ax : List Float) (rng : SplitMix64) → length x ≡ l → Kept l (begun z a l n x ax rng)
   unfolding begun
   begun-kept x ax rng e =
       record {
@@ -186,7 +187,7 @@ module _ (z : Float) (a : ℕ → ℕ → Float) (l n : ℕ) where
       }
 
   -- a whole phase
-  pub phase-keeps : (x ax : List Float) (rng : ℕ) → length x ≡ l → Kept l (phaseOf z a l n (begun z a l n x ax rng))
+  pub phase-keeps : (x ax : List Float) (rng : SplitMix64) → length x ≡ l → Kept l (phaseOf z a l n (begun z a l n x ax rng))
   phase-keeps x ax rng e = phase-kept (begun z a l n x ax rng) (begun-kept x ax rng e)
 
   -- what froze in it and what is free after it are all of its columns
@@ -196,7 +197,7 @@ module _ (z : Float) (a : ℕ → ℕ → Float) (l n : ℕ) where
       run-keeps (λ c. c .walk .frozen + freeOnes (c .walk .free) ≡ l) (ended l) (further z a l n)
       (λ c _ t. step-sound z a l n (c .walk) .together ∙ t) _ (start w) e
 
-  pub phase-total : (x ax : List Float) (rng : ℕ)
+  pub phase-total : (x ax : List Float) (rng : SplitMix64)
       → phaseOf z a l n (begun z a l n x ax rng) .frozen + freeOnes (phaseOf z a l n (begun z a l n x ax rng) .free) ≡ l
   unfolding begun
   phase-total x ax rng = phase-sum (begun z a l n x ax rng) (omega (arith, ones l))

@@ -28,6 +28,7 @@ use Rattle.phasing.specs.Phase.{Between, roundedOff, phased}
 use Rattle.coloring.specs.Coloring.{settled, walked}
 use Rattle.coloring.proofs.Marked.{Kept, phase-keeps, phase-total}
 use Rattle.places.proofs.Places.{back, back-at, back-other, length-putBack, count-none, count-through, count-fewer, count-out}
+use Rattle.draw.specs.declared.SplitMix64.{SplitMix64}
 
 -- ---- the marks that a phase leaves
 
@@ -125,12 +126,12 @@ module _ (z : Float) (a : ℕ → ℕ → Float) (k n : ℕ) where
       go false e r = r (omega (arith, falls b e))
 
   -- no coordinate is free at the walk's end
-  pub walk-settles : (rng : ℕ) → settled (walked z a k n rng) ≡ true
+  pub walk-settles : (rng : SplitMix64) → settled (walked z a k n rng) ≡ true
   unfolding walked
   walk-settles rng = settles _ _ (omega arith)
 
   -- more fuel changes nothing
-  pub walk-enough : (fuel rng : ℕ) → k ≤ fuel
+  pub walk-enough : (fuel : ℕ) (rng : SplitMix64) → k ≤ fuel
       → run settled (phased z a k n) fuel
       (record { x = repeated plusZero k; free = repeated 1 k; ax = repeated plusZero n; rng = rng; directions = 0 }) ≡ walked
       z a k n rng

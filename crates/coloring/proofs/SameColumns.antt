@@ -21,6 +21,7 @@ use Rattle.walk.proofs.SameEntries.{run-cong, phase-same, begun-same, times-sam
 use Rattle.places.specs.Places.{chosen}
 use Rattle.phasing.specs.Phase.{Between, phased}
 use Rattle.coloring.specs.Coloring.{settled, walked, coloringOf}
+use Rattle.draw.specs.declared.SplitMix64.{SplitMix64}
 
 -- ---- the search
 
@@ -92,11 +93,11 @@ module _ (a b : ℕ → ℕ → Float) (k n : ℕ) (same : (p i : ℕ) → p < k
         begun-same z (λ p. a (getD phase p 0)) (λ p. b (getD phase p 0)) (length phase) n (inside-same (s .free)) (chosen (s .x) phase) (s .ax) (s .rng),
       )
 
-  walked-same : (z : Float) (rng : ℕ) → walked z a k n rng ≡ walked z b k n rng
+  walked-same : (z : Float) (rng : SplitMix64) → walked z a k n rng ≡ walked z b k n rng
   unfolding walked
   walked-same z rng = run-cong settled (phased z a k n) (phased z b k n) (phased-same z) _ _
 
-  pub coloring-same : (z : Float) (rng : ℕ) → coloringOf z a k n rng ≡ coloringOf z b k n rng
+  pub coloring-same : (z : Float) (rng : SplitMix64) → coloringOf z a k n rng ≡ coloringOf z b k n rng
   unfolding coloringOf
   coloring-same z rng =
       rw (

@@ -25,6 +25,7 @@ use Rattle.phasing.specs.Phase.{Between, roundedOff, phased}
 use Rattle.coloring.specs.Coloring.{settled, walked, coloringOf}
 use Rattle.coloring.proofs.Marked.{Colour}
 use Rattle.coloring.proofs.Colours.{Coloured, walk-colours}
+use Rattle.draw.specs.declared.SplitMix64.{SplitMix64}
 
 -- equal but for the sign of zeros
 pub record AlikeBetween (b b' : Between) : Type 0 where
@@ -65,7 +66,7 @@ settled-same b b' r = ap (λ (free : List ℕ). eqb (freeOnes free) 0) (r .free)
 
 module _ (z : Float) (start : Alike z plusZero) (a : ℕ → ℕ → Float) (k n : ℕ) where
   -- a phase on the same free columns
-  inside-alike : {x x' ax ax' : List Float} (free : List ℕ) (rng directions : ℕ) → AlikeList x x' → AlikeList ax ax'
+  inside-alike : {x x' ax ax' : List Float} (free : List ℕ) (rng : SplitMix64) (directions : ℕ) → AlikeList x x' → AlikeList ax ax'
       → AlikeBetween (phased z a k n (record { x = x; free = free; ax = ax; rng = rng; directions = directions }))
       (phased plusZero a k n (record { x = x'; free = free; ax = ax'; rng = rng; directions = directions }))
   unfolding phased
@@ -102,7 +103,7 @@ module _ (z : Float) (start : Alike z plusZero) (a : ℕ → ℕ → Float) (k n
   phased-alike : (b b' : Between) → AlikeBetween b b' → AlikeBetween (phased z a k n b) (phased plusZero a k n b')
   phased-alike b b' r = rw (r .free, r .rng, r .directions) (inside-alike (b' .free) (b' .rng) (b' .directions) (r .x) (r .ax))
 
-  pub walked-alike : (rng : ℕ) → AlikeBetween (walked z a k n rng) (walked plusZero a k n rng)
+  pub walked-alike : (rng : SplitMix64) → AlikeBetween (walked z a k n rng) (walked plusZero a k n rng)
   unfolding walked
   walked-alike rng =
       let b : Between = record { x = repeated plusZero k; free = repeated 1 k; ax = repeated plusZero n; rng = rng; directions = 0 } in
@@ -125,7 +126,7 @@ unfolding ofBits
 minus-start = record { flatly = refl }
 
 -- the same colours, the same generator after them and the same counts
-module _ (a : ℕ → ℕ → Float) (k n rng : ℕ) where
+module _ (a : ℕ → ℕ → Float) (k n : ℕ) (rng : SplitMix64) where
   colours-same : walked minusZero a k n rng .x ≡ walked plusZero a k n rng .x
   colours-same =
       let c : Coloured k (walked minusZero a k n rng .x) = walk-colours minusZero a k n rng in

@@ -25,6 +25,7 @@ use Rattle.coloring.specs.declared.Counted.{Counted}
 use Rattle.freeze.specs.Held.{Roomy}
 use Rattle.coloring.proofs.Phases.{falls}
 use Rattle.coloring.proofs.Counts.{phased-few}
+use Rattle.draw.specs.declared.SplitMix64.{SplitMix64}
 
 -- the room that the phases share stays as long as it was made
 pub record Rooms (ps cs : List ℕ) (ss xs : List Float) (fs : List ℕ) (ds : List Float) : Type 0 where
@@ -40,7 +41,7 @@ module _ (z : Float) (a : ℕ → ℕ → Float) (k n : ℕ) where
   abbrev pub onward : Between → Between
   onward b = run settled (phased z a k n) (freeOnes (b .free)) b
 
-  pub walk-begun : (rng : ℕ) (num x : List Float) (free : List ℕ) → Fresh k n num x free → walked z a k n rng ≡ onward (between n num x free rng 0)
+  pub walk-begun : (rng : SplitMix64) (num x : List Float) (free : List ℕ) → Fresh k n num x free → walked z a k n rng ≡ onward (between n num x free rng 0)
   unfolding walked
   walk-begun rng num x free f = rw (f .zero, f .all, f .flat)
 
@@ -78,8 +79,8 @@ fresh-is k rows num x x' ys free free' lx lf h ex ey ef =
     }
 
 -- the walk, and local search from its colours
-pub colors : (a : ℕ → ℕ → Float) (k rows rng m directions : ℕ) (num x x' : List Float) (free : List ℕ) (r : Counted)
-    → between rows num x free (r .rng .state) directions ≡ walked plusZero a k rows rng → r .directions ≡ directions → m ≡ rows
+pub colors : (a : ℕ → ℕ → Float) (k rows : ℕ) (rng : SplitMix64) (m directions : ℕ) (num x x' : List Float) (free : List ℕ) (r : Counted)
+    → between rows num x free (r .rng) directions ≡ walked plusZero a k rows rng → r .directions ≡ directions → m ≡ rows
     → searchedIn x' (r .sweeps) ≡ searched a k x (times plusZero a k m x)
     → ColoredAs x' r (coloringOf plusZero a k rows rng)
 unfolding coloringOf

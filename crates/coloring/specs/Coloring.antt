@@ -11,13 +11,14 @@ use Rattle.entries.specs.Rows.{times}
 use Rattle.walk.specs.Walk.{freeOnes}
 use Rattle.phasing.specs.Phase.{Between, phased}
 use Rattle.search.specs.Search.{Searched, searched}
+use Rattle.draw.specs.declared.SplitMix64.{SplitMix64}
 
 -- no coordinate is free
 abbrev pub settled : Between → Bool
 settled b = eqb (freeOnes (b .free)) 0
 
 -- the whole walk, from x = 0
-unfoldable pub walked : Float → (ℕ → ℕ → Float) → ℕ → ℕ → ℕ → Between
+unfoldable pub walked : Float → (ℕ → ℕ → Float) → ℕ → ℕ → SplitMix64 → Between
 walked z a k n rng =
     let b : Between = record { x = repeated plusZero k; free = repeated 1 k; ax = repeated plusZero n; rng = rng; directions = 0 } in
     run settled (phased z a k n) (freeOnes (b .free)) b
@@ -25,12 +26,12 @@ walked z a k n rng =
 -- colours, each 1.0 or -1.0, the generator after them, and how many directions were drawn and how many sweeps made
 pub record Colored : Type 0 where
   pub x : List Float
-  pub rng : ℕ
+  pub rng : SplitMix64
   pub directions : ℕ
   pub sweeps : ℕ
 
 -- the walk, A x of its colours anew, and local search
-unfoldable pub coloringOf : Float → (ℕ → ℕ → Float) → ℕ → ℕ → ℕ → Colored
+unfoldable pub coloringOf : Float → (ℕ → ℕ → Float) → ℕ → ℕ → SplitMix64 → Colored
 coloringOf z a k n rng =
     let b : Between = walked z a k n rng in
     let s : Searched = searched a k (b .x) (times plusZero a k n (b .x)) in

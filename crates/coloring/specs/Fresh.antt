@@ -18,6 +18,6 @@ pub record Fresh (k rows : ℕ) (num x : List Float) (free : List ℕ) : Type 0 
 -- the colours and the answer r of a colouring are those of c
 pub record ColoredAs (x : List Float) (r : Counted) (c : Colored) : Type 0 where
   pub colours : x ≡ c .x
-  pub draws : r .rng .state ≡ c .rng
+  pub draws : r .rng ≡ c .rng
   pub directions : r .directions ≡ c .directions
   pub sweeps : r .sweeps ≡ c .sweeps

@@ -64,8 +64,8 @@ fn walk_to_end(
     requires { ⌜ Chosen (now u) n (now cols) (now scale) (length (now blocked)) × Roomy (length (now cols)) (now num)
         (now blocked) (now x) (now free) 0 × Fresh (length (now cols)) (length (now blocked)) (now num) (now x) (now free) ⌝ }
     ensures { λ r. ⌜ between (length (now (blocked .entry))) (now (num .exit)) (now (x .exit)) (now (free .exit))
-        (r .rng .state) (r .directions) ≡ walked plusZero (entryOf (now (u .entry)) n (now (cols .entry)) (now (scale .entry)))
-        (length (now (cols .entry))) (length (now (blocked .entry))) (rng .state) ⌝ }
+        (r .rng) (r .directions) ≡ walked plusZero (entryOf (now (u .entry)) n (now (cols .entry)) (now (scale .entry)))
+        (length (now (cols .entry))) (length (now (blocked .entry))) rng ⌝ }
 {
     let mut places = [0u32; 256];
     let mut subcols = [0u32; 256];
@@ -117,8 +117,8 @@ fn walk_anew(
     requires { ⌜ Chosen (now u) n (now cols) (now scale) (length (now blocked)) × Roomy (length (now cols)) (now num)
         (now blocked) (now x) (now free) 0 ⌝ }
     ensures { λ r. ⌜ between (length (now (blocked .entry))) (now (num .exit)) (now (x .exit)) (now (free .exit))
-        (r .rng .state) (r .directions) ≡ walked plusZero (entryOf (now (u .entry)) n (now (cols .entry)) (now (scale .entry)))
-        (length (now (cols .entry))) (length (now (blocked .entry))) (rng .state) ⌝ }
+        (r .rng) (r .directions) ≡ walked plusZero (entryOf (now (u .entry)) n (now (cols .entry)) (now (scale .entry)))
+        (length (now (cols .entry))) (length (now (blocked .entry))) rng ⌝ }
 {
     let rows = blocked.len();
     clear(&mut x[..]);
@@ -162,7 +162,7 @@ pub fn coloring(
         (now num)) ⌝ }
     ensures { λ r. ⌜ ColoredAs (now (x .exit)) r (coloringOf plusZero
         (entryOf (now (u .entry)) n (now (cols .entry)) (now (scale .entry))) (length (now (cols .entry)))
-        (length (now (blocked .entry))) (rng .state)) ⌝ }
+        (length (now (blocked .entry))) rng) ⌝ }
 {
     let k = cols.len();
     let rows = blocked.len();

@@ -7,22 +7,23 @@ use lib.Ieee.{Float, binary64, ofBits, mul, neg, le, lt}
 use Rattle.seq.specs.Choice.{pick}
 use Rattle.seq.specs.Lists.{tabulate}
 use Rattle.seq.specs.Sums.{plusZero, at}
+use Rattle.draw.specs.declared.SplitMix64.{SplitMix64}
 use Rattle.draw.specs.Gaussian.{gaussianOf, afterGaussian}
 use Rattle.linear.specs.Vectors.{dotOf, normOf}
 use Rattle.linear.specs.Basis.{projected}
 use Rattle.seq.specs.Marks.{isSet}
 
--- the generator's state after k draws
-unfoldable pub afterDraws : ℕ → ℕ → ℕ
+-- the generator after k draws
+unfoldable pub afterDraws : SplitMix64 → ℕ → SplitMix64
 afterDraws rng zero = rng
 afterDraws rng (suc k) = afterGaussian (afterDraws rng k)
 
 -- the draw after k others
-unfoldable pub drawAt : ℕ → ℕ → Float
+unfoldable pub drawAt : SplitMix64 → ℕ → Float
 drawAt rng k = gaussianOf (afterDraws rng k)
 
 -- l draws
-abbrev pub drawn : ℕ → ℕ → List Float
+abbrev pub drawn : SplitMix64 → ℕ → List Float
 drawn rng l = tabulate (drawAt rng) l
 
 -- g with 0.0 at each place that is not free

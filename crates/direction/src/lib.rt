@@ -17,15 +17,18 @@ ghost use Rattle.direction.specs.Step.{reachTo, moved, along};
 
 // Fills g with draws; the generator after them.
 pub fn draw_into(g: &mut [f64], rng: SplitMix64) -> SplitMix64
-    ensures { λ r. ⌜ (now (g .exit) ≡ drawn (rng .state) (length (now (g .entry)))) ×
-        (r .state ≡ afterDraws (rng .state) (length (now (g .entry)))) ⌝ }
+    ensures { λ r. ⌜ (now (g .exit) ≡ drawn rng (length (now (g .entry)))) × (r ≡ afterDraws rng (length (now (g .entry)))) ⌝ }
 {
     let mut r = rng;
     let mut i = 0usize;
     while i < g.len() {
         let d = r.gaussian();
         g[i] = d.value;
-        r = d.rng;
+        // Field by field: a load of the whole would wait until both fields had been written out.
+        r = SplitMix64 {
+            state: d.rng.state,
+            edition: d.rng.edition,
+        };
         i += 1;
     }
     r

@@ -11,6 +11,7 @@ use Rattle.seq.specs.Sums.{plusZero}
 use Rattle.coloring.specs.Coloring.{Colored, coloringOf}
 use Rattle.coloring.specs.Fresh.{ColoredAs}
 use Rattle.coloring.specs.declared.Counted.{Counted}
+use Rattle.draw.specs.SplitMix.{seeded}
 use Rattle.limits.specs.Matrix.{columnsOf}
 use Rattle.discrepancy.specs.Discrepancy.{coloringFault, colourAt, coloursOf, DiscrepancyColored}
 
@@ -33,7 +34,7 @@ module _ (u : List Float) (m n seed : ℕ) (output : List ℤ) (numbers : List F
 
   pub coloured : (x numbers' : List Float) (indices' : List ℕ) (output' : List ℤ) (c : Counted)
       → coloringFault u m n (length output) (length numbers) (length indices) ≡ 0
-      → ColoredAs x c (coloringOf plusZero (columnsOf u n) m n seed)
+      → ColoredAs x c (coloringOf plusZero (columnsOf u n) m n (seeded seed 1))
       → length x ≡ m
       → output' ≡ tabulate (colourAt x) (length x)
       → numbers' ≡ repeated plusZero (length numbers)

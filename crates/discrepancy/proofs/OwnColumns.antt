@@ -24,6 +24,7 @@ use Rattle.limits.specs.Matrix.{columnsOf}
 use Rattle.limits.proofs.Bounded.{bounded-at, finite-within}
 use Rattle.discrepancy.specs.Discrepancy.{mostEntry}
 use Rattle.coloring.proofs.SameColumns.{coloring-same}
+use Rattle.draw.specs.declared.SplitMix64.{SplitMix64}
 
 -- the columns in order, and a scale of 1.0 for each
 abbrev pub inOrder : ℕ → List ℕ
@@ -76,7 +77,7 @@ module _ (u : List Float) (m n : ℕ) (area : length u ≡ m * n) where
         ∙ rw (getD-tab (λ i. i) m p 0 h, getD-tab (λ i. one) m p nan h) (unscaled-is (at u (p * n + i)) (known (p * n + i)))
 
     -- the colouring of those columns is that of the matrix
-    pub own-coloring : (rng : ℕ) → coloringOf plusZero (entryOf u n (inOrder m) (unscaled m)) m n rng ≡ coloringOf plusZero (columnsOf u n) m n rng
+    pub own-coloring : (rng : SplitMix64) → coloringOf plusZero (entryOf u n (inOrder m) (unscaled m)) m n rng ≡ coloringOf plusZero (columnsOf u n) m n rng
     own-coloring rng = coloring-same (entryOf u n (inOrder m) (unscaled m)) (columnsOf u n) m n own-entry plusZero rng
 
 module _ (u : List Float) (m n : ℕ) (cols : List ℕ) (scale : List Float) (blocked : List ℕ)
@@ -93,6 +94,6 @@ module _ (u : List Float) (m n : ℕ) (cols : List ℕ) (scale : List Float) (bl
       (rw (ordered, ones, rows) (own-chosen u m n area few short known within), wide ∙ sym many, rw (rows, many) room)
 
   -- and what it leaves
-  pub own-left : ((i : ℕ) → T (fits binary64 (at u i))) → (rng seed : ℕ) → rng ≡ seed
-      → coloringOf plusZero (entryOf u n cols scale) (length cols) (length blocked) rng ≡ coloringOf plusZero (columnsOf u n) m n seed
-  own-left known rng seed e = rw (rows, many, ordered, ones, e) (own-coloring u m n area known seed)
+  pub own-left : ((i : ℕ) → T (fits binary64 (at u i))) → (rng start : SplitMix64) → rng ≡ start
+      → coloringOf plusZero (entryOf u n cols scale) (length cols) (length blocked) rng ≡ coloringOf plusZero (columnsOf u n) m n start
+  own-left known rng start e = rw (rows, many, ordered, ones, e) (own-coloring u m n area known start)

@@ -10,6 +10,7 @@ use lib.Ieee.{Float, binary64, ofBits, lt}
 use Rattle.seq.specs.Choice.{pick}
 use Rattle.seq.specs.Lists.{tabulate, repeated}
 use Rattle.seq.specs.Sums.{plusZero, at}
+use Rattle.draw.specs.SplitMix.{seeded}
 use Rattle.limits.specs.Matrix.{columnsOf}
 use Rattle.limits.specs.Limits.{tooLarge, scratchShort, bounded}
 use Rattle.coloring.specs.Coloring.{coloringOf}
@@ -31,17 +32,17 @@ coloringFault u m n output numbers indices =
 abbrev pub colourAt : List Float → ℕ → ℤ
 colourAt x j = pick (lt plusZero (at x j)) (pos 1) (negsuc 0)
 
--- the colours of the m columns
+-- the colours of the m columns; direct colourings stay at edition 1
 unfoldable pub coloursOf : List Float → ℕ → ℕ → ℕ → List ℤ
-coloursOf u m n seed = tabulate (colourAt (coloringOf plusZero (columnsOf u n) m n seed .x)) m
+coloursOf u m n seed = tabulate (colourAt (coloringOf plusZero (columnsOf u n) m n (seeded seed 1) .x)) m
 
 -- The answer, and what the call leaves: on a refusal zeros beside the number, and every list as it was, as a list of values;
 -- else how many directions were drawn and sweeps made, the colours, and a scratch of zeros.
 pub record DiscrepancyColored (u : List Float) (m n seed : ℕ) (output : List ℤ) (numbers : List Float) (indices : List ℕ)
     (r : Colored) (output' : List ℤ) (numbers' : List Float) (indices' : List ℕ) : Type 0 where
   pub number : r .number ≡ coloringFault u m n (length output) (length numbers) (length indices)
-  pub directions : r .directions ≡ pick (eqb (r .number) 0) (coloringOf plusZero (columnsOf u n) m n seed .directions) 0
-  pub sweeps : r .sweeps ≡ pick (eqb (r .number) 0) (coloringOf plusZero (columnsOf u n) m n seed .sweeps) 0
+  pub directions : r .directions ≡ pick (eqb (r .number) 0) (coloringOf plusZero (columnsOf u n) m n (seeded seed 1) .directions) 0
+  pub sweeps : r .sweeps ≡ pick (eqb (r .number) 0) (coloringOf plusZero (columnsOf u n) m n (seeded seed 1) .sweeps) 0
   pub colours : output' ≡ pick (eqb (r .number) 0) (coloursOf u m n seed) output
   pub floats : numbers' ≡ pick (eqb (r .number) 0) (repeated plusZero (length numbers)) numbers
   pub words : indices' ≡ pick (eqb (r .number) 0) (repeated 0 (length indices)) indices

@@ -16,6 +16,7 @@ ghost use Rattle.seq.specs.Lists.{tabulate};
 ghost use Rattle.seq.specs.Sums.{plusZero};
 ghost use Rattle.coloring.specs.Coloring.{coloringOf};
 ghost use Rattle.coloring.specs.Fresh.{ColoredAs};
+ghost use Rattle.draw.specs.SplitMix.{seeded};
 ghost use Rattle.limits.specs.Limits.{bounded};
 ghost use Rattle.limits.specs.Matrix.{columnsOf};
 ghost use Rattle.discrepancy.specs.Discrepancy.{mostEntry, coloringFault, colourAt, DiscrepancyColored};
@@ -79,7 +80,7 @@ fn color_all(
 ) -> Counted
     requires { ⌜ (length (now matrix) ≡ m * n) × (m ≤ 256) × (n ≤ 4096) × (length (now x) ≡ m) × (n + n + n + m * m ≤ length (now numbers))
         × (n ≤ length (now indices)) × (bounded mostEntry (now matrix) ≡ true) ⌝ }
-    ensures { λ r. ⌜ ColoredAs (now (x .exit)) r (coloringOf plusZero (columnsOf (now (matrix .entry)) n) m n seed) ⌝ }
+    ensures { λ r. ⌜ ColoredAs (now (x .exit)) r (coloringOf plusZero (columnsOf (now (matrix .entry)) n) m n (seeded seed 1)) ⌝ }
 {
     let mut cols = [0u32; 256];
     let mut scale = [0.0f64; 256];
@@ -93,7 +94,7 @@ fn color_all(
         x,
         numbers,
         &mut indices[..n],
-        SplitMix64::new(seed),
+        SplitMix64::new(seed, 1),
     )
 }
 

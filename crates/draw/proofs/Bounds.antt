@@ -13,11 +13,12 @@ use Rattle.draw.specs.Uniform.{uniformOf}
 use Rattle.cosine.specs.Cosine.{size, negative, square, whole, cosOf, tau}
 use Rattle.logarithm.specs.Logarithm.{low, places, depth, lnOf}
 use Rattle.draw.specs.Gaussian.{lnOfDraw, cosOfDraw}
+use Rattle.draw.specs.Drawn.{one, Drawn}
 use Rattle.cosine.specs.Bounds.{CosineMeets}
 use Rattle.logarithm.specs.Bounds.{LogarithmMeets}
 use Rattle.cosine.proofs.CosineBound.{cosine-40, cosine-42}
 use Rattle.logarithm.proofs.Logs.{logarithm-near}
-use Rattle.draw.proofs.Values.{one, Drawn, draw-bits, angle-bits, bits-value, cosine-value, size-le-one, logarithm-value, logarithm-of-one}
+use Rattle.draw.proofs.Values.{draw-bits, angle-bits, bits-value, cosine-value, size-le-one, logarithm-value, logarithm-of-one}
 use Rattle.draw.proofs.Uniforms.{output-drawn}
 
 -- the cosine of every draw lies in [-1, 1], within 2 ^ -45 of both exact sums
@@ -66,9 +67,9 @@ pub logarithm-at-one : lnOf one ≡ fin false 0 (pos 0)
 unfolding toBits
 logarithm-at-one = logarithm-of-one
 
--- the same of the two public calls, at every output of 64 bits
-pub cosine-of-output : (word : ℕ) → word < 2 ^ 64 → CosineMeets (mul binary64 tau (uniformOf word)) (cosOfDraw word)
-cosine-of-output word h = cosine-meets (output-drawn word h)
+-- the same of the two public calls, at every output of 64 bits and in either edition
+pub cosine-of-output : (edition word : ℕ) → word < 2 ^ 64 → CosineMeets (mul binary64 tau (uniformOf edition word)) (cosOfDraw edition word)
+cosine-of-output edition word h = cosine-meets (output-drawn edition word h)
 
-pub logarithm-of-output : (word : ℕ) → word < 2 ^ 64 → LogarithmMeets (uniformOf word) (lnOfDraw word)
-logarithm-of-output word h = logarithm-meets (output-drawn word h)
+pub logarithm-of-output : (edition word : ℕ) → word < 2 ^ 64 → LogarithmMeets (uniformOf edition word) (lnOfDraw edition word)
+logarithm-of-output edition word h = logarithm-meets (output-drawn edition word h)

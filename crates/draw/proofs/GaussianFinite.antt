@@ -1,4 +1,4 @@
--- The Gaussian of every state is finite, and at most 16 in size: the logarithm is above -64, so that the root is at most 16, and the cosine is at most 1.
+-- The Gaussian of every generator is finite, and at most 16 in size: the logarithm is above -64, so that the root is at most 16, and the cosine is at most 1.
 use Prim.Native.Nat.{ℕ, zero, suc, _+_, _*_, _^_, _≤_, _<_, zero-le}
 use mathlib.Core.Path.{_≡_, refl, sym, _∙_}
 use mathlib.Core.Bool.{Bool, true, false, not, true≢false}
@@ -23,12 +23,12 @@ use Rattle.root.proofs.RootResults.{finite-of-value}
 use Rattle.root.proofs.RootNearest.{sqrt-is-root}
 use Rattle.cosine.specs.Cosine.{size, negative, square, signed, unitOf, cosOf, cosineOf, tau}
 use Rattle.logarithm.specs.Logarithm.{depth, lnOf}
-use Rattle.draw.specs.SplitMix.{outputOf, afterOf}
-use Rattle.draw.specs.Uniform.{uniformOf}
+use Rattle.draw.specs.declared.SplitMix64.{SplitMix64}
+use Rattle.draw.specs.SplitMix.{afterOf}
 use Rattle.draw.specs.Gaussian.{boxMuller, gaussianOf}
-use Rattle.draw.proofs.Outputs.{output-lt}
-use Rattle.draw.proofs.Values.{Drawn, cosine-value, logarithm-value, size-le-one, spread-value}
-use Rattle.draw.proofs.Uniforms.{output-drawn}
+use Rattle.draw.specs.Drawn.{Drawn}
+use Rattle.draw.proofs.Values.{cosine-value, logarithm-value, size-le-one, spread-value}
+use Rattle.draw.proofs.Uniforms.{generator-drawn}
 use Rattle.draw.proofs.Bounds.{depth-small}
 
 -- ---- -2 times a logarithm of y / 2 ^ 47 is y / 2 ^ 46
@@ -138,8 +138,9 @@ of-uniforms {u} {v} d d' =
     rw (mul-commutes binary64 (sqrtOf (mul binary64 (neg (fin false 1 (pos 1))) (lnOf u))) (cosineOf t))
     (record { ends = mul-finite (cos-finite t) (r .ends) (cos-most t); most = le-trans (mul-at-most (cos-finite t) (r .ends) (cos-most t)) (r .most) })
 
-pub gaussian-small : (s : ℕ) → Small (gaussianOf s)
-gaussian-small s = of-uniforms (output-drawn (outputOf s) (output-lt s)) (output-drawn (outputOf (afterOf s)) (output-lt (afterOf s)))
+pub gaussian-small : (rng : SplitMix64) → Small (gaussianOf rng)
+unfolding gaussianOf
+gaussian-small rng = of-uniforms (generator-drawn rng) (generator-drawn (afterOf rng))
 
-pub gaussian-finite : (s : ℕ) → T (finite (gaussianOf s))
-gaussian-finite s = gaussian-small s .ends .ends
+pub gaussian-finite : (rng : SplitMix64) → T (finite (gaussianOf rng))
+gaussian-finite rng = gaussian-small rng .ends .ends

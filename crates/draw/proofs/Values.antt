@@ -8,7 +8,7 @@ use native.Mathlib.Nat.{le-of-lt, lt-of-le-of-lt, lt-of-lt-of-le, mul-pos, min-l
 use native.Mathlib.Decide.{decLe}
 use native.Mathlib.Omega.{arith}
 use lib.Dec.{T, leb, eqb, eqb→eq, lit<, lit≤}
-use lib.IntN.{ℤ, pos, negsuc}
+use lib.IntN.{ℤ, pos}
 use lib.Pow.{pow-pos, pow-add, pow-mono, shl-lt}
 use lib.Ieee.{Float, nan, inf, fin, binary64, up, down, neg, div, mul, ofInt, round, toBits, ofBits, ofFields, odd, fits, le}
 use lib.Ieee as ieee
@@ -24,35 +24,39 @@ use lib.Ieee.Fits.{down-pos, kept-lt}
 use Rattle.terms.specs.Terms.{sums}
 use Rattle.cosine.specs.Cosine.{size, negative, square, unitOf, signed, cosineOf, whole, tau}
 use Rattle.logarithm.specs.Logarithm.{depth, lowered, logarithmOf, oddSum, ratio}
+use Rattle.draw.specs.Drawn.{least, one, Drawn}
 use Rattle.divisors.proofs.Upto.{div-grows}
 
--- w / 2 ^ k is a double, for a w of 53 bits
-pub quotient-value : (k w : ℕ) → k ≤ 1074 → w < 2 ^ 53 → HasValue (div binary64 (ofInt binary64 (pos w)) (fin false 1 (pos k))) false w (2 ^ k)
-unfolding div ofInt
-quotient-value k w hk hw = go (round binary64 false w 1) (round-whole binary64 false w (le-of-lt hw))
+-- w / 2 ^ c over 2 ^ k is a double, for a w of 53 bits
+pub over-power : (c k w : ℕ) (x : Float) → c + k ≤ 1074 → w < 2 ^ 53 → HasValue x false w (2 ^ c)
+    → HasValue (div binary64 x (fin false 1 (pos k))) false w (2 ^ (c + k))
+unfolding div
+over-power c k w nan hk hw v = absurd v
+over-power c k w (inf t) hk hw v = absurd v
+over-power c k w (fin t m e) hk hw v =
+    rw (v .0)
+    (subst (λ (x : Float). HasValue x false w (2 ^ (c + k)))
+    (sym (round-same binary64 false (m * up e * 1) (1 * 2 ^ k * down e) w (2 ^ (c + k)) (mul-pos (mul-pos (lit< tt) (pow-pos k)) (down-pos e)) (pow-pos (c + k))
+    (rw (pow-add 2 c k) (cross (m * up e) (down e) w (2 ^ c) (2 ^ k) (v .1))))) exact)
   where
-    shifted : w * 2 ^ 1074 ≡ w * 2 ^ (1074 - k) * 2 ^ k
-    shifted = ap (λ (x : ℕ). w * x) (spread 1074 k hk) ∙ sym (mul-assoc w (2 ^ (1074 - k)) (2 ^ k))
-      where
-        spread : (n k : ℕ) → k ≤ n → 2 ^ n ≡ 2 ^ (n - k) * 2 ^ k
-        spread n k h = let e : n ≡ (n - k) + k = omega arith in ap (λ (x : ℕ). 2 ^ x) e ∙ pow-add 2 (n - k) k
+    cross : (x d w p q : ℕ) → x * p ≡ w * d → x * 1 * (p * q) ≡ w * (1 * q * d)
+    cross x d w p q h = let g = ap (λ (z : ℕ). z * q) h in omega arith
 
-    exact : HasValue (round binary64 false w (2 ^ k)) false w (2 ^ k)
+    spread : (n k : ℕ) → k ≤ n → 2 ^ n ≡ 2 ^ (n - k) * 2 ^ k
+    spread n k h = let e : n ≡ (n - k) + k = omega arith in ap (λ (x : ℕ). 2 ^ x) e ∙ pow-add 2 (n - k) k
+
+    exact : HasValue (round binary64 false w (2 ^ (c + k))) false w (2 ^ (c + k))
     exact =
-        round-exact binary64 false w (2 ^ k) w (1074 - k) (pow-pos k) hw
-        (lt-of-lt-of-le (shl-lt 53 (1074 - k) hw) (pow-mono {i = 53 + (1074 - k)} {j = 1074 + 1024} (omega arith))) shifted
+        round-exact binary64 false w (2 ^ (c + k)) w (1074 - (c + k)) (pow-pos (c + k)) hw
+        (lt-of-lt-of-le (shl-lt 53 (1074 - (c + k)) hw) (pow-mono {i = 53 + (1074 - (c + k))} {j = 1074 + 1024} (omega arith)))
+        (ap (λ (x : ℕ). w * x) (spread 1074 (c + k) hk) ∙ sym (mul-assoc w (2 ^ (1074 - (c + k))) (2 ^ (c + k))))
 
-    go : (x : Float) → HasValue x false w 1 → HasValue (div binary64 x (fin false 1 (pos k))) false w (2 ^ k)
-    go nan v = absurd v
-    go (inf t) v = absurd v
-    go (fin t m e) v =
-        rw (v .0)
-        (subst (λ (x : Float). HasValue x false w (2 ^ k))
-        (sym (round-same binary64 false (m * up e * 1) (1 * 2 ^ k * down e) w (2 ^ k) (mul-pos (mul-pos (lit< tt) (pow-pos k)) (down-pos e)) (pow-pos k)
-        (cross m (up e) (down e) w (2 ^ k) (v .1)))) exact)
-      where
-        cross : (m u d w p : ℕ) → m * u * 1 ≡ w * d → m * u * 1 * p ≡ w * (1 * p * d)
-        cross m u d w p h = ap (λ (x : ℕ). x * p) h ∙ omega arith
+-- a whole number of 53 bits, over 2 ^ k
+pub quotient-value : (k w : ℕ) → k ≤ 1074 → w < 2 ^ 53 → HasValue (div binary64 (ofInt binary64 (pos w)) (fin false 1 (pos k))) false w (2 ^ k)
+unfolding ofInt
+quotient-value k w hk hw =
+    subst (λ (z : ℕ). HasValue (div binary64 (ofInt binary64 (pos w)) (fin false 1 (pos k))) false w (2 ^ z)) (zero-add k)
+    (over-power 0 k w (round binary64 false w 1) (rw (zero-add k) hk) hw (round-whole binary64 false w (le-of-lt hw)))
 
 neg-value : (x : Float) (s : Bool) (a c : ℕ) → HasValue x s a c → HasValue (neg x) (not s) a c
 unfolding neg
@@ -143,18 +147,6 @@ bits-grow (fin false m e) (fin false n d) p q h =
     crossed a b c d k h = omega (arith, mul-le-mul-right k h)
 
 -- ---- the draws: u from 2 ^ -54 up and at most 1, and t = TAU * u, rounded
-
-abbrev pub least : Float
-least = fin false 1 (negsuc 53)
-
-abbrev pub one : Float
-one = fin false 1 (pos 0)
-
--- all that the laws below ask of a uniform
-pub record Drawn (u : Float) : Type 0 where
-  pub held : T (fits binary64 u)
-  pub from : T (le least u)
-  pub upto : T (le u one)
 
 -- u is what the logarithm asks
 pub draw-bits : {u : Float} → Drawn u → (969 * 2 ^ 52 ≤ toBits binary64 u) × (toBits binary64 u ≤ 1023 * 2 ^ 52)

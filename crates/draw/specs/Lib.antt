@@ -1,4 +1,5 @@
--- What the draws mean, in the order of reading.
+-- What the draws mean, in the order of reading; Drawn is what the functions tell each other.
 pub mod SplitMix
 pub mod Uniform
 pub mod Gaussian
+pub mod Drawn

@@ -1,5 +1,6 @@
 // Replays fixed vectors of the draw: of each state the two outputs, their uniforms, the logarithm of the first, the cosine of the second,
-// the Gaussian, and the state that it leaves, in hexadecimal. The file stdout holds what the rule of docs/DRAW.md gives for them.
+// the Gaussian, and the state that it leaves, in hexadecimal; all of edition 1, and then all of edition 2. The file stdout holds what the
+// rule of docs/DRAW.md gives for them.
 use draw::SplitMix64;
 
 const STATES: [u64; 64] = [
@@ -83,12 +84,12 @@ fn bits(x: f64) -> u64 {
 }
 
 // One line.
-fn replay(state: u64) {
-    let first = SplitMix64::new(state).next_u64();
+fn replay(state: u64, edition: u32) {
+    let first = SplitMix64::new(state, edition).next_u64();
     let second = first.rng.next_u64();
     print_words(state, first.value, second.value);
-    print_uniforms(first.value, second.value);
-    print_draw(state);
+    print_uniforms(edition, first.value, second.value);
+    print_draw(state, edition);
 }
 
 fn print_words(state: u64, first: u64, second: u64) {
@@ -97,23 +98,29 @@ fn print_words(state: u64, first: u64, second: u64) {
     print(second, b'\t');
 }
 
-fn print_uniforms(first: u64, second: u64) {
-    print(bits(draw::uniform_of(first)), b'\t');
-    print(bits(draw::uniform_of(second)), b'\t');
-    print(bits(draw::ln_of(first)), b'\t');
-    print(bits(draw::cos_of(second)), b'\t');
+fn print_uniforms(edition: u32, first: u64, second: u64) {
+    print(bits(draw::uniform_of(edition, first)), b'\t');
+    print(bits(draw::uniform_of(edition, second)), b'\t');
+    print(bits(draw::ln_of(edition, first)), b'\t');
+    print(bits(draw::cos_of(edition, second)), b'\t');
 }
 
-fn print_draw(state: u64) {
-    let d = SplitMix64::new(state).gaussian();
+fn print_draw(state: u64, edition: u32) {
+    let d = SplitMix64::new(state, edition).gaussian();
     print(bits(d.value), b'\t');
     print(d.rng.state, b'\n');
 }
 
-fn main() {
+// All lines of an edition.
+fn replay_all(edition: u32) {
     let mut i = 0usize;
     while i < 64 {
-        replay(STATES[i]);
+        replay(STATES[i], edition);
         i += 1;
     }
+}
+
+fn main() {
+    replay_all(1);
+    replay_all(2);
 }

@@ -15,7 +15,7 @@ use Rattle.ieee.specs.Constants.{one}
 use Rattle.weights.specs.Weights.{l1Of}
 use Rattle.limits.proofs.Sizes.{small}
 use Rattle.rules.specs.Rules.{ruleFault}
-use Rattle.faults.specs.Faults.{sizeFault, valueFault, jobFault}
+use Rattle.faults.specs.Faults.{editionFault, sizeFault, valueFault, jobFault}
 use Rattle.rules.specs.declared.Rule.{Rule}
 
 -- a matrix that is not too large has few entries
@@ -86,19 +86,22 @@ module _ (u w : List Float) where
       values-fine h g = rw (entries, ends, h, g)
 
 -- the first of them that is not 0
-module _ (rule : Rule) (u : List Float) (m n : ℕ) (w : List Float) (output numbers indices : ℕ) where
-  pub rule-refused : {first : ℕ} → first ≡ ruleFault rule → (first ≡ 0 → ⊥) → first ≡ jobFault rule u m n w output numbers indices
+module _ (rule : Rule) (edition : ℕ) (u : List Float) (m n : ℕ) (w : List Float) (output numbers indices : ℕ)
+    {first : ℕ} (e1 : first ≡ ruleFault rule) where
+  pub rule-refused : (first ≡ 0 → ⊥) → first ≡ jobFault rule edition u m n w output numbers indices
   unfolding jobFault
-  rule-refused {first} e h = rw (← e, ne-eqb first 0 h)
+  rule-refused h = rw (← e1, ne-eqb first 0 h)
 
-  pub sizes-refused : {first second : ℕ} → first ≡ ruleFault rule → first ≡ 0 → second ≡ sizeFault m n (length u) (length w)
-      output numbers indices → (second ≡ 0 → ⊥)
-      → second ≡ jobFault rule u m n w output numbers indices
-  unfolding jobFault
-  sizes-refused {first} {second} e z f h = rw (← e, eq-eqb first 0 z, ← f, ne-eqb second 0 h)
+  module _ (fine1 : first ≡ 0) {second : ℕ} (e2 : second ≡ editionFault edition) where
+    pub edition-refused : (second ≡ 0 → ⊥) → second ≡ jobFault rule edition u m n w output numbers indices
+    unfolding jobFault
+    edition-refused h = rw (← e1, eq-eqb first 0 fine1, ← e2, ne-eqb second 0 h)
 
-  pub values-left : {first second third : ℕ} → first ≡ ruleFault rule → first ≡ 0 → second ≡ sizeFault m n (length u) (length w)
-      output numbers indices → second ≡ 0
-      → third ≡ valueFault u w → third ≡ jobFault rule u m n w output numbers indices
-  unfolding jobFault
-  values-left {first} {second} e z f y g = rw (← e, eq-eqb first 0 z, ← f, eq-eqb second 0 y) g
+    module _ (fine2 : second ≡ 0) {third : ℕ} (e3 : third ≡ sizeFault m n (length u) (length w) output numbers indices) where
+      pub sizes-refused : (third ≡ 0 → ⊥) → third ≡ jobFault rule edition u m n w output numbers indices
+      unfolding jobFault
+      sizes-refused h = rw (← e1, eq-eqb first 0 fine1, ← e2, eq-eqb second 0 fine2, ← e3, ne-eqb third 0 h)
+
+      pub values-left : third ≡ 0 → {last : ℕ} → last ≡ valueFault u w → last ≡ jobFault rule edition u m n w output numbers indices
+      unfolding jobFault
+      values-left fine3 g = rw (← e1, eq-eqb first 0 fine1, ← e2, eq-eqb second 0 fine2, ← e3, eq-eqb third 0 fine3) g

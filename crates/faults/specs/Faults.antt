@@ -1,4 +1,4 @@
--- What a job is refused for before any work is done: the first number that applies, in the order 1, 12, 2, 3, .., 9.
+-- What a job is refused for before any work is done: the first number that applies, in the order 1, 12, 2, 13, 3, .., 9.
 use Prim.Native.Nat.{ℕ, _*_}
 use mathlib.Core.Bool.{not, _||_}
 use mathlib.Core.List.{List}
@@ -12,6 +12,10 @@ use Rattle.ieee.specs.Constants.{one}
 use Rattle.weights.specs.Weights.{l1Of, sound}
 use Rattle.rules.specs.Rules.{ruleFault}
 use Rattle.rules.specs.declared.Rule.{Rule}
+
+-- 13 an edition that is neither 1 nor 2
+abbrev pub editionFault : ℕ → ℕ
+editionFault edition = pick (eqb edition 1 || eqb edition 2) 0 13
 
 -- 3 too large, 4 another length than m and n say, 5 no column or no row, 6 too little scratch
 unfoldable pub sizeFault : ℕ → ℕ → ℕ → ℕ → ℕ → ℕ → ℕ → ℕ
@@ -29,6 +33,7 @@ valueFault u w =
     (pick (sound (l1Of plusZero w)) 0 9) 8) 7
 
 -- the first of all
-unfoldable pub jobFault : Rule → List Float → ℕ → ℕ → List Float → ℕ → ℕ → ℕ → ℕ
-jobFault rule u m n w output numbers indices =
-    orElse (ruleFault rule) (orElse (sizeFault m n (length u) (length w) output numbers indices) (valueFault u w))
+unfoldable pub jobFault : Rule → ℕ → List Float → ℕ → ℕ → List Float → ℕ → ℕ → ℕ → ℕ
+jobFault rule edition u m n w output numbers indices =
+    orElse (ruleFault rule) (orElse (editionFault edition)
+    (orElse (sizeFault m n (length u) (length w) output numbers indices) (valueFault u w)))

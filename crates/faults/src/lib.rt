@@ -8,7 +8,17 @@ use rules::Rule;
 use rules::rule_fault;
 use weights::l1;
 ghost use mathlib.Core.Path.{_≡_};
-ghost use Rattle.faults.specs.Faults.{sizeFault, valueFault, jobFault};
+ghost use Rattle.faults.specs.Faults.{editionFault, sizeFault, valueFault, jobFault};
+
+// 13 where the edition is neither 1 nor 2.
+fn edition_fault(edition: u32) -> u64
+    ensures { λ r. ⌜ r ≡ editionFault edition ⌝ }
+{
+    if edition == 1 {
+        return 0;
+    }
+    if edition == 2 { 0 } else { 13 }
+}
 
 // 3 to 6, of the sizes.
 fn size_fault(
@@ -67,6 +77,7 @@ fn value_fault(matrix: &[f64], weights: &[f64]) -> u64
 // The first number that applies, or 0.
 pub fn job_fault(
     rule: Rule,
+    edition: u32,
     matrix: &[f64],
     m: usize,
     n: usize,
@@ -75,15 +86,19 @@ pub fn job_fault(
     numbers: usize,
     indices: usize,
 ) -> u64
-    ensures { λ r. ⌜ r ≡ jobFault rule (now (matrix .entry)) m n (now (weights .entry)) output numbers indices ⌝ }
+    ensures { λ r. ⌜ r ≡ jobFault rule edition (now (matrix .entry)) m n (now (weights .entry)) output numbers indices ⌝ }
 {
     let first = rule_fault(rule);
     if first != 0 {
         return first;
     }
-    let second = size_fault(m, n, matrix.len(), weights.len(), output, numbers, indices);
+    let second = edition_fault(edition);
     if second != 0 {
         return second;
+    }
+    let third = size_fault(m, n, matrix.len(), weights.len(), output, numbers, indices);
+    if third != 0 {
+        return third;
     }
     value_fault(matrix, weights)
 }

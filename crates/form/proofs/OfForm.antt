@@ -1,6 +1,6 @@
 -- What is of the form is taken: the text of a sheet that fits has no wrong line, and what is read from it is what the sheet says. The text is parted at
 -- the fields, each is read where it stands.
-use borrow.Author.Tests.{leb-true, ltb-true, le-leb}
+use borrow.Author.Tests.{eqb-true, eqb-false, leb-true, ltb-true, le-leb}
 use Prim.Native.Nat.{ℕ, zero, suc, _+_, _*_, _/_, _%_, _^_, _≤_, _<_}
 use mathlib.Core.Path.{_≡_, refl, sym, ap, _∙_, subst}
 use mathlib.Core.Bool.{Bool, true, false, _&&_, false≢true}
@@ -10,6 +10,7 @@ use native.Mathlib.Numerals.{add-one}
 use native.Mathlib.Decide.{decLt}
 use native.Mathlib.Omega.{arith}
 use lib.Dec.{eqb, leb, ltb}
+use Rattle.seq.specs.Choice.{pick}
 use lib.ListN.{length, length-append}
 use lib.Ieee.{binary64, ofBits}
 use Rattle.seq.proofs.Filling.{tab-cong}
@@ -26,23 +27,23 @@ use Rattle.fields.proofs.Words.{spelled-at}
 use Rattle.rules.specs.declared.Cap.{Cap}
 use Rattle.rules.specs.declared.Cap.the-variants.{Absent, AtMost}
 use Rattle.rules.specs.declared.Rule.the-variants.{Target, Within}
-use Rattle.head.specs.Words.{thinWord, targetWord, withinWord, dash}
-use Rattle.head.specs.FirstLine.{capAt, targetAt, withinAt, ruleAt, sizesAt, headOf}
+use Rattle.head.specs.Words.{thinWord, targetWord, withinWord, secondEdition, dash}
+use Rattle.head.specs.FirstLine.{capAt, targetAt, withinAt, ruleAt, sizesAt, editionAt, headOf}
 use Rattle.head.specs.declared.Head.{Head}
-use Rattle.head.proofs.Fields.{cap-dash, cap-count, sizes-is, within-is, rule-target, rule-within, head-is}
+use Rattle.head.proofs.Fields.{cap-dash, cap-count, sizes-is, within-is, rule-target, rule-within, edition-two, edition-one, head-is}
 use Rattle.form.specs.Form.{lineLong, isEntry, colWord, isColumn, endOf, wrongLine}
-use Rattle.form.specs.Reading.{weightsOf, matrixOf}
-use Rattle.form.specs.Sheets.{Wish, target, within, Sheet, capText, wishText, headText, entriesText, columnText, columnsText}
-use Rattle.form.specs.Sheets.{sheetText, capFits, wishFits, Fits, ruleOf, Says}
+use Rattle.form.specs.Reading.{weightBits, matrixBits, weightsOf, matrixOf}
+use Rattle.form.specs.Sheets.{Wish, target, within, Sheet, capText, wishText, editionText, headText, entriesText, columnText, columnsText}
+use Rattle.form.specs.Sheets.{sheetText, capFits, wishFits, Fits, ruleOf, allowanceOf, Says}
 use Rattle.form.proofs.Segments.{Seg, seg-first, seg-rest, seg-after, seg-byte, seg-word, seg-bits, seg-bits-at, seg-count, seg-digit, whole-seg}
 use Rattle.form.proofs.Lines.{right-back}
 
--- the cap that stands from i to p, where the line ends
-cap-read : {t : List ℕ} {i p : ℕ} (cap : Cap) → capFits cap ≡ true → Seg t i p (capText cap) → byteAt t p ≡ newline
+-- the cap that stands from i to p, where no digit follows
+cap-read : {t : List ℕ} {i p : ℕ} (cap : Cap) → capFits cap ≡ true → Seg t i p (capText cap) → isDigit (byteAt t p) ≡ false
     → capAt t i ≡ record { ok = true; cap = cap; next = p }
 cap-read {t} {i} {p} Absent h a e = rw (a .ends) (sym (cap-dash t i dash (sym (seg-byte a)) refl))
 cap-read {t} {i} {p} (AtMost c) h a e =
-    let f : countAt t i ≡ record { ok = true; value = c; next = p } = seg-count c (leb-true c 4294967295 h) a (ap isDigit e) in
+    let f : countAt t i ≡ record { ok = true; value = c; next = p } = seg-count c (leb-true c 4294967295 h) a e in
     let d : byteAt t i ≡ 45 → ⊥ = λ q. false≢true (ap isDigit (sym q) ∙ seg-digit c a) in
     sym (cap-count t i (byteAt t i) (record { ok = true; value = c; next = p }) refl d (sym f))
 
@@ -58,15 +59,15 @@ not-target t i h = go (spelled targetWord t i) refl
         absurd (omega arith)
 
 -- the rule
-rule-read : {t : List ℕ} {i p : ℕ} (w : Wish) → wishFits w ≡ true → Seg t i p (wishText w) → byteAt t p ≡ newline
-    → ruleAt t i ≡ record { ok = true; rule = ruleOf w; next = p }
+rule-read : {t : List ℕ} {i p : ℕ} (w : Wish) → wishFits w ≡ true → Seg t i p (wishText w) → isDigit (byteAt t p) ≡ false
+    → ruleAt t i ≡ record { ok = true; rule = ruleOf w; allowance = allowanceOf w; next = p }
 rule-read {t} {i} {p} (target v) h a e =
     let s : spelled targetWord t i ≡ true = seg-word targetWord (seg-first targetWord (countText v) a) in
     let f : countAt t (i + 7) ≡ record { ok = true; value = v; next = p } =
-    seg-count v (leb-true v 4294967295 h) (seg-rest targetWord (countText v) a) (ap isDigit e) in
-    let g : targetAt t (i + 7) ≡ record { ok = true; rule = Target v; next = p } =
-    ap (λ (x : Field). record { ok = x .ok; rule = Target (x .value); next = x .next }) f in
-    sym (rule-target t i true (record { ok = true; rule = Target v; next = p }) (sym s) refl (sym g))
+    seg-count v (leb-true v 4294967295 h) (seg-rest targetWord (countText v) a) e in
+    let g : targetAt t (i + 7) ≡ record { ok = true; rule = Target v; allowance = 0; next = p } =
+    ap (λ (x : Field). record { ok = x .ok; rule = Target (x .value); allowance = 0; next = x .next }) f in
+    sym (rule-target t i true (record { ok = true; rule = Target v; allowance = 0; next = p }) (sym s) refl (sym g))
 rule-read {t} {i} {p} (within x cap) h a e =
     let fit = both (ltb x (2 ^ 64)) (capFits cap) h in
     let s : spelled withinWord t i ≡ true = seg-word withinWord (seg-first withinWord (bitsText x ++ (tab ∷ capText cap)) a) in
@@ -77,10 +78,44 @@ rule-read {t} {i} {p} (within x cap) h a e =
     let c : Seg t (i + 7 + 16) p (tab ∷ capText cap) = rw l at (seg-rest (bitsText x) (tab ∷ capText cap) b) in
     let q : suc (i + 7 + 16) ≡ i + 7 + 17 = omega arith in
     let d : Seg t (i + 7 + 17) p (capText cap) = rw q at (seg-after c) in
-    let g : record { ok = true; rule = Within (ofBits binary64 x) cap; next = p } ≡ withinAt t (i + 7) =
+    let g : record { ok = true; rule = Within (ofBits binary64 x) cap; allowance = x; next = p } ≡ withinAt t (i + 7) =
     within-is t (i + 7) tab (record { ok = true; value = x; next = i + 7 + 16 }) (ofBits binary64 x) (record { ok = true; cap = cap; next = p })
     (sym f) (sym (seg-byte c)) (sym (cap-read cap (fit .1) d e)) refl in
-    sym (rule-within t i false true (record { ok = true; rule = Within (ofBits binary64 x) cap; next = p }) (sym (not-target t i s)) refl (sym s) refl g)
+    sym (rule-within t i false true (record { ok = true; rule = Within (ofBits binary64 x) cap; allowance = x; next = p })
+    (sym (not-target t i s)) refl (sym s) refl g)
+
+-- the end of the line: what it begins with, and the edition that it says
+edition-first : {t : List ℕ} {i j : ℕ} (e : ℕ) → Seg t i j (editionText e) → isDigit (byteAt t i) ≡ false
+edition-first {t} {i} {j} e a = go (eqb e 2) a
+  where
+    go : (s : Bool) → Seg t i j (pick s secondEdition (newline ∷ [])) → isDigit (byteAt t i) ≡ false
+    go true b = ap isDigit (seg-byte b)
+    go false b = ap isDigit (seg-byte b)
+
+not-second : (t : List ℕ) (i : ℕ) → byteAt t i ≡ newline → spelled secondEdition t i ≡ false
+not-second t i h = go (spelled secondEdition t i) refl
+  where
+    go : (s : Bool) → spelled secondEdition t i ≡ s → s ≡ false
+    go false e = refl
+    go true e =
+        let z : i + 0 ≡ i = omega arith in
+        let p : byteAt t i ≡ 9 = rw z at (spelled-at secondEdition t i e 0 (omega arith)) in
+        absurd (omega arith)
+
+edition-read : {t : List ℕ} {i j : ℕ} (e : ℕ) → 1 ≤ e → e ≤ 2 → Seg t i j (editionText e) → editionAt t i ≡ record { ok = true; edition = e; next = j }
+edition-read {t} {i} {j} e low high a = go (eqb e 2) refl a
+  where
+    first : (e ≡ 2 → ⊥) → Dec (e < 2) → e ≡ 1
+    first h (yes g) = omega arith
+    first h (no g) = absurd (h (omega arith))
+
+    go : (s : Bool) → eqb e 2 ≡ s → Seg t i j (pick s secondEdition (newline ∷ [])) → editionAt t i ≡ record { ok = true; edition = e; next = j }
+    go true f b =
+        let p : e ≡ 2 = eqb-true e 2 f in
+        rw (p, b .ends) (sym (edition-two t i true (sym (seg-word secondEdition b)) refl))
+    go false f b =
+        let p : e ≡ 1 = first (eqb-false e 2 f) (decLt e 2) in
+        rw (p, b .ends) (sym (edition-one t i newline false (sym (not-second t i (seg-byte b))) refl (sym (seg-byte b))))
 
 -- the sizes that stand at i, and what stands behind them
 record SizesRead (t : List ℕ) (i k m n : ℕ) (rest : List ℕ) : Type 0 where
@@ -108,29 +143,42 @@ sizes-read {t} {i} {k} m n rest h g a =
       behind = seg-after d;
     }
 
--- the first line
-head-read : {t : List ℕ} {e : ℕ} (s : Sheet) → Fits s → Seg t 0 e (headText s)
-    → headOf t ≡ record { ok = true; m = s .m; n = s .n; seed = s .seed; rule = ruleOf (s .wish); next = e }
+-- what the first line of a sheet is read as, where it ends at e
+abbrev headFor : Sheet → ℕ → Head
+headFor s e =
+    record {
+      ok = true;
+      m = s .m;
+      n = s .n;
+      seed = s .seed;
+      edition = s .edition;
+      rule = ruleOf (s .wish);
+      allowance = allowanceOf (s .wish);
+      next = e;
+    }
+
+pub head-read : {t : List ℕ} {e : ℕ} (s : Sheet) → Fits s → Seg t 0 e (headText s) → headOf t ≡ headFor s e
 head-read {t} {e} s fit a =
-    let end : List ℕ = wishText (s .wish) ++ (newline ∷ []) in
+    let end : List ℕ = wishText (s .wish) ++ editionText (s .edition) in
     let z : SizesRead t 5 e (s .m) (s .n) (bitsText (s .seed) ++ (tab ∷ end)) =
     sizes-read (s .m) (s .n) (bitsText (s .seed) ++ (tab ∷ end)) (fit .columns) (fit .rows) (seg-rest thinWord _ a) in
     let i : ℕ = z .next in
-    let f : bitsAt t i ≡ record { ok = true; value = s .seed; next = i + 16 } = seg-bits-at (s .seed) (fit .seeds)
-    (seg-first (bitsText (s .seed)) (tab ∷ end) (z .behind)) in
+    let f : bitsAt t i ≡ record { ok = true; value = s .seed; next = i + 16 } =
+    seg-bits-at (s .seed) (fit .seeds) (seg-first (bitsText (s .seed)) (tab ∷ end) (z .behind)) in
     let l : i + length (bitsText (s .seed)) ≡ i + 16 = ap (λ (x : ℕ). i + x) (length-bits (s .seed)) in
     let b : Seg t (i + 16) e (tab ∷ end) = rw l at (seg-rest (bitsText (s .seed)) (tab ∷ end) (z .behind)) in
     let q : suc (i + 16) ≡ i + 17 = omega arith in
     let c : Seg t (i + 17) e end = rw q at (seg-after b) in
     let p : ℕ = i + 17 + length (wishText (s .wish)) in
-    let d : Seg t p e (newline ∷ []) = seg-rest (wishText (s .wish)) (newline ∷ []) c in
-    let r : ruleAt t (i + 17) ≡ record { ok = true; rule = ruleOf (s .wish); next = p } =
-    rule-read (s .wish) (fit .wishes) (seg-first (wishText (s .wish)) (newline ∷ []) c) (seg-byte d) in
-    let all : record { ok = true; m = s .m; n = s .n; seed = s .seed; rule = ruleOf (s .wish); next = p + 1 } ≡ headOf t =
-    head-is t true (record { ok = true; m = s .m; n = s .n; next = i }) (record { ok = true; value = s .seed; next = i + 16 }) tab newline
-    (record { ok = true; rule = ruleOf (s .wish); next = p }) (sym (seg-word thinWord (seg-first thinWord _ a))) (sym (z .read))
-    (sym f) (sym (seg-byte b)) (sym r) (sym (seg-byte d)) in
-    rw (d .ends) (sym all)
+    let d : Seg t p e (editionText (s .edition)) = seg-rest (wishText (s .wish)) (editionText (s .edition)) c in
+    let r : ruleAt t (i + 17) ≡ record { ok = true; rule = ruleOf (s .wish); allowance = allowanceOf (s .wish); next = p } =
+    rule-read (s .wish) (fit .wishes) (seg-first (wishText (s .wish)) (editionText (s .edition)) c) (edition-first (s .edition) d) in
+    let g : editionAt t p ≡ record { ok = true; edition = s .edition; next = e } =
+    edition-read (s .edition) (fit .editions .0) (fit .editions .1) d in
+    sym
+    (head-is t true (record { ok = true; m = s .m; n = s .n; next = i }) (record { ok = true; value = s .seed; next = i + 16 }) tab
+    (record { ok = true; rule = ruleOf (s .wish); allowance = allowanceOf (s .wish); next = p }) (record { ok = true; edition = s .edition; next = e })
+    (sym (seg-word thinWord (seg-first thinWord _ a))) (sym (z .read)) (sym f) (sym (seg-byte b)) (sym r) (sym g))
 
 length-entries : (e : ℕ → ℕ) (k : ℕ) → length (entriesText e k) ≡ 17 * k
 unfolding entriesText
@@ -251,7 +299,7 @@ says : (t : List ℕ) (s : Sheet) → Fits s → t ≡ sheetText s → Says t s
 says t s fit e =
     let whole : Seg t 0 (length t) (sheetText s) = subst (λ (w : List ℕ). Seg t 0 (length t) w) e (whole-seg t) in
     let start : ℕ = 0 + length (headText s) in
-    let h : Head = record { ok = true; m = s .m; n = s .n; seed = s .seed; rule = ruleOf (s .wish); next = start } in
+    let h : Head = headFor s start in
     let head : headOf t ≡ h = head-read s fit (seg-first (headText s) (columnsText s (s .m)) whole) in
     let lines : Seg t start (length t) (columnsText s (s .m)) = seg-rest (headText s) (columnsText s (s .m)) whole in
     let column : (j : ℕ) → j < s .m → ColumnRead t (s .n) (start + j * lineLong (s .n)) (s .weight j) (s .entry j) =
@@ -263,7 +311,12 @@ says t s fit e =
       columns = ap (λ (x : Head). x .m) head;
       rows = ap (λ (x : Head). x .n) head;
       seed = ap (λ (x : Head). x .seed) head;
+      edition = ap (λ (x : Head). x .edition) head;
       rule = ap (λ (x : Head). x .rule) head;
+      allowance = ap (λ (x : Head). x .allowance) head;
+      weight-bits = ap (weightBits t) head ∙ tab-cong _ _ (s .m) (λ j g. column j g .weight);
+      matrix-bits = ap (matrixBits t) head
+          ∙ tab-cong _ _ (s .m * s .n) (λ k g. let p = place-of (s .m) (s .n) k g in column (k / s .n) (p .0) .entry (k % s .n) (p .1));
       weights = ap (weightsOf t) head ∙ tab-cong _ _ (s .m) (λ j g. ap (ofBits binary64) (column j g .weight));
       matrix =
           ap (matrixOf t) head

@@ -1,7 +1,7 @@
 -- What is taken is of the form: a text of which no line is wrong is the text of the sheet that it says. Field by field each stands where it is read, and
 -- what stands in a row is joined.
 use borrow.Author.Tests.{eqb-true, le-leb, lt-ltb}
-use Prim.Native.Nat.{ℕ, zero, suc, _+_, _*_, _^_, _<_}
+use Prim.Native.Nat.{ℕ, zero, suc, _+_, _*_, _^_, _<_, _≤_}
 use mathlib.Core.Path.{_≡_, refl, ap}
 use mathlib.Core.Bool.{Bool, true, false, _&&_, false≢true}
 use mathlib.Core.List.{List, [], _∷_, _++_, append-assoc}
@@ -17,15 +17,17 @@ use Rattle.seq.proofs.Choosing.{both}
 use Rattle.seq.proofs.Every.{every-at}
 use Rattle.fields.proofs.BitsBack.{bits-below}
 use Rattle.rules.specs.declared.Cap.the-variants.{Absent, AtMost}
-use Rattle.head.specs.Words.{thinWord, targetWord, withinWord, dash}
-use Rattle.head.specs.FirstLine.{capAt, targetAt, withinAt, noRule, ruleAt, sizesAt, headOf}
+use Rattle.head.specs.Words.{thinWord, targetWord, withinWord, secondEdition, dash}
+use Rattle.head.specs.FirstLine.{capAt, targetAt, withinAt, noRule, ruleAt, sizesAt, editionAt, headOf}
 use Rattle.head.specs.declared.CapField.{CapField}
 use Rattle.head.specs.declared.RuleField.{RuleField}
+use Rattle.head.specs.declared.EditionField.{EditionField}
+use Rattle.head.specs.declared.Head.{Head}
 use Rattle.head.proofs.Good.{good-sizes, good-head}
 use Rattle.form.specs.Form.{lineLong, isEntry, colWord, isColumn, endOf, wrongLine}
 use Rattle.form.specs.Reading.{weightPlace}
-use Rattle.form.specs.Sheets.{Wish, target, within, capText, wishText, headText, entriesText, columnText, columnsText, sheetText}
-use Rattle.form.specs.Sheets.{capFits, wishFits, Fits, ruleOf, wishAt, sheetOf, Says}
+use Rattle.form.specs.Sheets.{Wish, target, within, Sheet, capText, wishText, editionText, headText, entriesText, columnText, columnsText, sheetText}
+use Rattle.form.specs.Sheets.{capFits, wishFits, Fits, ruleOf, allowanceOf, wishAt, sheetOf, Says}
 use Rattle.form.proofs.Segments.{Seg, seg-join, seg-whole, byte-seg, word-seg, bits-seg, count-seg, count-most}
 use Rattle.form.proofs.Verdicts.{sized}
 use Rattle.form.proofs.Lines.{right}
@@ -59,6 +61,7 @@ record RuleSaid (t : List ℕ) (i : ℕ) (r : RuleField) (w : Wish) : Type 0 whe
   stands : Seg t i (r .next) (wishText w)
   fits : wishFits w ≡ true
   rule : r .rule ≡ ruleOf w
+  allowance : r .allowance ≡ allowanceOf w
 
 target-said : (t : List ℕ) (i : ℕ) → spelled targetWord t i ≡ true → countAt t (i + 7) .ok ≡ true
     → RuleSaid t i (targetAt t (i + 7)) (target (countAt t (i + 7) .value))
@@ -68,6 +71,7 @@ target-said t i e h =
       stands = seg-join (word-seg targetWord t i (omega arith) refl e) (count-seg t (i + 7) h);
       fits = le-leb (countAt t (i + 7) .value) 4294967295 (count-most t (i + 7) h);
       rule = refl;
+      allowance = refl;
     }
 
 within-said : (t : List ℕ) (i : ℕ) → spelled withinWord t i ≡ true → withinAt t (i + 7) .ok ≡ true
@@ -83,6 +87,7 @@ within-said t i e h =
           (seg-join (bits-seg t (i + 7) (p .0)) (seg-join (tested-to t (i + 7 + 16) (i + 7 + 17) tab (omega arith) (q .0) (omega arith)) (c .stands)));
       fits = rw (lt-ltb (bitsAt t (i + 7) .value) (2 ^ 64) (bits-below t (i + 7)), c .fits);
       rule = refl;
+      allowance = refl;
     }
 
 rule-said : (t : List ℕ) (i : ℕ) → ruleAt t i .ok ≡ true → RuleSaid t i (ruleAt t i) (wishAt t i)
@@ -108,22 +113,47 @@ sizes-said t i h =
     (seg-join (tested t (countAt t i .next) tab (g .parted) (omega arith))
     (seg-join (count-seg t j (g .second)) (tested t (countAt t j .next) tab (g .closed) (omega arith))))
 
--- the first line
-head-said : (t : List ℕ) → headOf t .ok ≡ true → (Seg t 0 (headOf t .next) (headText (sheetOf t))) × (wishFits (sheetOf t .wish) ≡ true)
-    × (headOf t .rule ≡ ruleOf (sheetOf t .wish))
+-- the end of the line, and the edition that it says
+record EditionSaid (t : List ℕ) (i : ℕ) (e : EditionField) : Type 0 where
+  stands : Seg t i (e .next) (editionText (e .edition))
+  fits : (1 ≤ e .edition) × (e .edition ≤ 2)
+
+edition-said : (t : List ℕ) (i : ℕ) → editionAt t i .ok ≡ true → EditionSaid t i (editionAt t i)
+unfolding editionAt allTo
+edition-said t i h = go (spelled secondEdition t i) refl h
+  where
+    second : EditionField
+    second = record { ok = true; edition = 2; next = i + 3 }
+
+    first : EditionField
+    first = record { ok = eqb (byteAt t i) newline; edition = 1; next = suc i }
+
+    go : (s : Bool) → spelled secondEdition t i ≡ s → pick s second first .ok ≡ true → EditionSaid t i (pick s second first)
+    go true e g = record { stands = word-seg secondEdition t i (omega arith) refl e; fits = (omega arith, omega arith) }
+    go false e g = record { stands = tested t i newline g (omega arith); fits = (omega arith, omega arith) }
+
+-- the first line, and what it says
+record HeadSaid (t : List ℕ) (h : Head) (s : Sheet) : Type 0 where
+  stands : Seg t 0 (h .next) (headText s)
+  wishes : wishFits (s .wish) ≡ true
+  editions : (1 ≤ h .edition) × (h .edition ≤ 2)
+  rule : h .rule ≡ ruleOf (s .wish)
+  allowance : h .allowance ≡ allowanceOf (s .wish)
+
+head-said : (t : List ℕ) → headOf t .ok ≡ true → HeadSaid t (headOf t) (sheetOf t)
 unfolding headOf allTo
 head-said t h =
     let g = good-head t h in
     let i : ℕ = sizesAt t 5 .next in
-    let end : ℕ = ruleAt t (i + 17) .next in
     let r : RuleSaid t (i + 17) (ruleAt t (i + 17)) (wishAt t (i + 17)) = rule-said t (i + 17) (g .rule) in
+    let e : EditionSaid t (ruleAt t (i + 17) .next) (editionAt t (ruleAt t (i + 17) .next)) = edition-said t (ruleAt t (i + 17) .next) (g .closed) in
     let all =
     seg-join (word-seg thinWord t 0 (omega arith) refl (g .opened))
     (seg-join (sizes-said t 5 (g .sizes))
     (seg-join (bits-seg t i (g .seed))
     (seg-join (tested-to t (i + 16) (i + 17) tab (omega arith) (g .parted) (omega arith))
-    (seg-join (r .stands) (tested t end newline (g .closed) (omega arith)))))) in
-    (simp append-assoc at all, r .fits, r .rule)
+    (seg-join (r .stands) (e .stands))))) in
+    record { stands = simp append-assoc at all; wishes = r .fits; editions = e .fits; rule = r .rule; allowance = r .allowance }
 
 -- k entries from i, where each is one
 entries-said : (t : List ℕ) (i : ℕ) (e : ℕ → ℕ) (k : ℕ) → ((q : ℕ) → q < k → isEntry t (i + 17 * q) ≡ true)
@@ -166,14 +196,15 @@ columns-said t (suc k) h =
     (rw p (column-said t (headOf t .n) (headOf t .next + k * lineLong (headOf t .n)) (h k (omega arith))))
 
 -- the sheet that a text says fits its fields
-said-fits : (t : List ℕ) → headOf t .ok ≡ true → wishFits (sheetOf t .wish) ≡ true → headOf t .seed < 2 ^ 64 → Fits (sheetOf t)
-said-fits t h w g =
+said-fits : (t : List ℕ) → headOf t .ok ≡ true → HeadSaid t (headOf t) (sheetOf t) → headOf t .seed < 2 ^ 64 → Fits (sheetOf t)
+said-fits t h a g =
     let z = sized t (headOf t) refl h in
     record {
       columns = z .columns;
       rows = z .rows;
       seeds = g;
-      wishes = w;
+      editions = a .editions;
+      wishes = a .wishes;
       weights = λ j l. bits-below t (weightPlace (headOf t .next) (headOf t .n) j);
       entries = λ j i l m. bits-below t (weightPlace (headOf t .next) (headOf t .n) j + 17 + 17 * i);
     }
@@ -187,15 +218,19 @@ pub taken-is-of-the-form : (text : List ℕ) → wrongLine text ≡ 0 → Says t
 taken-is-of-the-form text h =
     let r = right text h in
     let a = head-said text (r .first) in
-    let all : Seg text 0 (endOf (headOf text)) (sheetText (sheetOf text)) = seg-join (a .0) (columns-said text (headOf text .m) (r .columns)) in
+    let all : Seg text 0 (endOf (headOf text)) (sheetText (sheetOf text)) = seg-join (a .stands) (columns-said text (headOf text .m) (r .columns)) in
     record {
-      fits = said-fits text (r .first) (a .1) (seed-below text);
+      fits = said-fits text (r .first) a (seed-below text);
       written = seg-whole text (sheetText (sheetOf text)) (endOf (headOf text)) all (r .long);
       right = h;
       columns = refl;
       rows = refl;
       seed = refl;
-      rule = a .2;
+      edition = refl;
+      rule = a .rule;
+      allowance = a .allowance;
+      weight-bits = refl;
+      matrix-bits = refl;
       weights = refl;
       matrix = refl;
     }

@@ -18,7 +18,7 @@ use Rattle.form.proofs.Rooms.{column-room}
 pub record Sized (h : Head) : Type 0 where
   pub columns : h .m ≤ 32
   pub rows : h .n ≤ 64
-  pub starts : h .next ≤ 82
+  pub starts : h .next ≤ 84
   pub reach : h .m * (21 + 17 * h .n) ≤ 35488
 
 head-sized : (t : List ℕ) → headOf t .ok ≡ true → Sized (headOf t)

@@ -1,4 +1,4 @@
--- The weights and the matrix that a sheet of the form says. Every bit pattern of a NaN is read as the NaN.
+-- The weights and the matrix that a sheet of the form says, as bits and as doubles. Every bit pattern of a NaN is the NaN as a double.
 use Prim.Native.Nat.{ℕ, _+_, _*_, _/_, _%_}
 use mathlib.Core.List.{List}
 use lib.Ieee.{Float, binary64, ofBits}
@@ -18,6 +18,14 @@ weightPlace start n j = start + j * lineLong n + 4
 -- where entry k of the matrix stands, which is of column k / n and row k % n
 abbrev pub entryPlace : ℕ → ℕ → ℕ → ℕ
 entryPlace start n k = weightPlace start n (k / n) + 17 + 17 * (k % n)
+
+-- the bits of the weights
+abbrev pub weightBits : List ℕ → Head → List ℕ
+weightBits text h = tabulate (λ j. bitsAt text (weightPlace (h .next) (h .n) j) .value) (h .m)
+
+-- and of the matrix, column after column
+abbrev pub matrixBits : List ℕ → Head → List ℕ
+matrixBits text h = tabulate (λ k. bitsAt text (entryPlace (h .next) (h .n) k) .value) (h .m * h .n)
 
 -- the weights
 abbrev pub weightsOf : List ℕ → Head → List Float

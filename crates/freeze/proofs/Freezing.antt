@@ -24,6 +24,8 @@ use Rattle.order.specs.Order.{worstTo}
 use Rattle.freeze.specs.Freeze.{freezeLimit, Walk, axis, freezes, blocking, frozenAt, freezeTo}
 use Rattle.freeze.specs.Held.{axIn, basisIn, held, Roomy, worstIn, roomFor, Blocked}
 use Rattle.freeze.proofs.Scratch.{rest-is, back-rest, back-front, walk-path}
+use Rattle.draw.specs.declared.SplitMix64.{SplitMix64}
+use Rattle.draw.specs.SplitMix.{seeded}
 
 -- columns that are chosen for some rows are chosen for n
 pub chosen-own : {u : List Float} {n : ℕ} {cols : List ℕ} {scale : List Float} {rows : ℕ} → Chosen u n cols scale rows → Chosen u n cols scale n
@@ -118,7 +120,7 @@ module _ (a : ℕ → ℕ → Float) (l : ℕ) (num : List Float) (blocked : Lis
   pub freezes-at : (v : List Float) → v ≡ axis l p → s ≡ signumOf (at x p)
       → Inserted plusZero count l (part lent (length num - lent) num) v c ys
       → Blocked a l num1 blocked c r num' blocked' → length blocked' ≡ n
-      → (frozen rng : ℕ) → held num' blocked' (set x p s) (set free p 0) r (frozen + 1) rng ≡ frozenAt plusZero a l n
+      → (frozen : ℕ) (rng : SplitMix64) → held num' blocked' (set x p s) (set free p 0) r (frozen + 1) rng ≡ frozenAt plusZero a l n
       (held num blocked x free count frozen rng) p
   unfolding frozenAt
   freezes-at v ev es given b lb frozen rng =
@@ -179,7 +181,7 @@ module _ (z : Float) (a : ℕ → ℕ → Float) (l n : ℕ) where
   freeze-zero w = refl
 
 -- the number of vectors in the scratch is at most l where the walk that it holds has at most l
-pub count-most : (l r : ℕ) (num : List Float) (blocked : List ℕ) (x : List Float) (free : List ℕ) (frozen rng : ℕ) (w : Walk)
+pub count-most : (l r : ℕ) (num : List Float) (blocked : List ℕ) (x : List Float) (free : List ℕ) (frozen : ℕ) (rng : SplitMix64) (w : Walk)
     → held num blocked x free r frozen rng ≡ w → length (w .basis) ≤ l → r ≤ l
 count-most l r num blocked x free frozen rng w e h =
     let b : length (basisIn (length blocked) (length x) r num) ≡ length (w .basis) = ap (λ (v : Walk). length (v .basis)) e in
@@ -199,8 +201,9 @@ pub record Freezing (a : ℕ → ℕ → Float) (l : ℕ) (num₀ : List Float) 
   pub frees : length free ≡ length free₀
   pub vs : length v ≡ length v₀
   pub few : frozen ≤ frozen₀ + p
-  pub fits : length (held num₀ blocked₀ x₀ free₀ count₀ frozen₀ 0 .basis) ≤ l
-  pub holds : (rng : ℕ) → held num blocked x free count frozen rng ≡ freezeTo plusZero a l (length blocked₀) (held num₀ blocked₀ x₀ free₀ count₀ frozen₀ rng) p
+  pub fits : length (basisIn (length blocked₀) (length x₀) count₀ num₀) ≤ l
+  pub holds : (rng : SplitMix64) → held num blocked x free count frozen rng
+      ≡ freezeTo plusZero a l (length blocked₀) (held num₀ blocked₀ x₀ free₀ count₀ frozen₀ rng) p
 
 module _ (a : ℕ → ℕ → Float) (l : ℕ) (num₀ : List Float) (blocked₀ : List ℕ) (x₀ : List Float) (free₀ : List ℕ) (v₀ : List Float) (count₀ frozen₀ : ℕ) where
   pub freezing-start : Roomy l num₀ blocked₀ x₀ free₀ count₀ → Freezing a l num₀ blocked₀ x₀ free₀ v₀ count₀ frozen₀ num₀ blocked₀ x₀ free₀ v₀ count₀ frozen₀ 0
@@ -220,7 +223,7 @@ module _ (a : ℕ → ℕ → Float) (l : ℕ) (num₀ : List Float) (blocked₀
 
   module _ (num : List Float) (blocked : List ℕ) (x : List Float) (free : List ℕ) (v : List Float) (count frozen p : ℕ)
       (i : Freezing a l num₀ blocked₀ x₀ free₀ v₀ count₀ frozen₀ num blocked x free v count frozen p) (more : p < l) where
-    pub freezing-none : freezes (held num blocked x free count frozen 0) p ≡ false
+    pub freezing-none : ((rng : SplitMix64) → freezes (held num blocked x free count frozen rng) p ≡ false)
         → Freezing a l num₀ blocked₀ x₀ free₀ v₀ count₀ frozen₀ num blocked x free v count frozen (p + 1)
     freezing-none f =
         record {
@@ -234,30 +237,31 @@ module _ (a : ℕ → ℕ → Float) (l : ℕ) (num₀ : List Float) (blocked₀
           few = omega (arith, i .few);
           fits = i .fits;
           holds = λ rng. freeze-none plusZero a l (length blocked₀) (held num₀ blocked₀ x₀ free₀ count₀ frozen₀ rng)
-              (held num blocked x free count frozen rng) p (i .holds rng) f;
+              (held num blocked x free count frozen rng) p (i .holds rng) (f rng);
         }
 
     pub freezing-one : (num' : List Float) (blocked' : List ℕ) (x' : List Float) (free' : List ℕ) (v' : List Float) (r : ℕ)
-        → freezes (held num blocked x free count frozen 0) p ≡ true
+        → ((rng : SplitMix64) → freezes (held num blocked x free count frozen rng) p ≡ true)
         → length num' ≡ length num → length blocked' ≡ length blocked → length x' ≡ length x → length free' ≡ length free → length v' ≡ length v
-        → ((frozen rng : ℕ) → held num' blocked' x' free' r (frozen + 1) rng ≡ frozenAt plusZero a l (length blocked)
+        → ((frozen : ℕ) (rng : SplitMix64) → held num' blocked' x' free' r (frozen + 1) rng ≡ frozenAt plusZero a l (length blocked)
         (held num blocked x free count frozen rng) p)
         → Freezing a l num₀ blocked₀ x₀ free₀ v₀ count₀ frozen₀ num' blocked' x' free' v' r (frozen + 1) (p + 1)
     freezing-one num' blocked' x' free' v' r f ln lb lx lf lv h =
         let n : ℕ = length blocked₀ in
-        let w : ℕ → Walk = λ rng. held num₀ blocked₀ x₀ free₀ count₀ frozen₀ rng in
-        let step : (rng : ℕ) → held num' blocked' x' free' r (frozen + 1) rng ≡ freezeTo plusZero a l n (w rng) (p + 1) =
-        λ rng. freeze-one plusZero a l n (w rng) (held num blocked x free count frozen rng) (held num' blocked' x' free' r (frozen + 1) rng) p (i .holds rng) f
-        (h frozen rng ∙ ap (λ (k : ℕ). frozenAt plusZero a l k (held num blocked x free count frozen rng) p) (i .rows)) in
+        let w : SplitMix64 → Walk = λ rng. held num₀ blocked₀ x₀ free₀ count₀ frozen₀ rng in
+        let step : (rng : SplitMix64) → held num' blocked' x' free' r (frozen + 1) rng ≡ freezeTo plusZero a l n (w rng) (p + 1) =
+        λ rng. freeze-one plusZero a l n (w rng) (held num blocked x free count frozen rng) (held num' blocked' x' free' r (frozen + 1) rng) p (i .holds rng)
+        (f rng) (h frozen rng ∙ ap (λ (k : ℕ). frozenAt plusZero a l k (held num blocked x free count frozen rng) p) (i .rows)) in
         let q : Roomy l num blocked x free count = i .roomy in
+        let any : SplitMix64 = seeded 0 1 in
         record {
           upto = omega arith;
           roomy = record {
             room = omega (arith, ln, lb, q .room, rw (← lb) at (q .room));
             wide = lx ∙ q .wide;
             marks = lf ∙ q .marks;
-            most = count-most l r num' blocked' x' free' (frozen + 1) 0 (freezeTo plusZero a l n (w 0) (p + 1)) (step 0)
-                (freeze-most plusZero a l n (w 0) (p + 1) (i .fits));
+            most = count-most l r num' blocked' x' free' (frozen + 1) any (freezeTo plusZero a l n (w any) (p + 1)) (step any)
+                (freeze-most plusZero a l n (w any) (p + 1) (i .fits));
           };
           nums = ln ∙ i .nums;
           rows = lb ∙ i .rows;
@@ -271,11 +275,13 @@ module _ (a : ℕ → ℕ → Float) (l : ℕ) (num₀ : List Float) (blocked₀
 
 -- the test of the loop, on the free marks and the coordinates of any walk
 module _ (num : List Float) (blocked : List ℕ) (x : List Float) (free : List ℕ) (count frozen p : ℕ) where
-  pub freezes-near : (d : Float) → getD free p 0 ≡ 1 → d ≡ absOf (at x p) → le freezeLimit d ≡ true → freezes (held num blocked x free count frozen 0) p ≡ true
-  freezes-near d h e k = rw (eq-eqb (getD free p 0) 1 h, ← e, k)
+  pub freezes-near : (d : Float) → getD free p 0 ≡ 1 → d ≡ absOf (at x p) → le freezeLimit d ≡ true
+      → (rng : SplitMix64) → freezes (held num blocked x free count frozen rng) p ≡ true
+  freezes-near d h e k rng = rw (eq-eqb (getD free p 0) 1 h, ← e, k)
 
-  pub freezes-far : (d : Float) → getD free p 0 ≡ 1 → d ≡ absOf (at x p) → le freezeLimit d ≡ false → freezes (held num blocked x free count frozen 0) p ≡ false
-  freezes-far d h e k = rw (eq-eqb (getD free p 0) 1 h, ← e, k)
+  pub freezes-far : (d : Float) → getD free p 0 ≡ 1 → d ≡ absOf (at x p) → le freezeLimit d ≡ false
+      → (rng : SplitMix64) → freezes (held num blocked x free count frozen rng) p ≡ false
+  freezes-far d h e k rng = rw (eq-eqb (getD free p 0) 1 h, ← e, k)
 
-  pub freezes-not : (getD free p 0 ≡ 1 → ⊥) → freezes (held num blocked x free count frozen 0) p ≡ false
-  freezes-not h = rw (ne-eqb (getD free p 0) 1 h)
+  pub freezes-not : (getD free p 0 ≡ 1 → ⊥) → (rng : SplitMix64) → freezes (held num blocked x free count frozen rng) p ≡ false
+  freezes-not h rng = rw (ne-eqb (getD free p 0) 1 h)

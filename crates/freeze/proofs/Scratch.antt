@@ -11,6 +11,7 @@ use Rattle.seq.proofs.Filling.{tab-cong, room}
 use Rattle.seq.proofs.Parts.{part-below}
 use Rattle.linear.specs.Held.{vectorsIn}
 use Rattle.freeze.specs.Freeze.{Walk}
+use Rattle.draw.specs.declared.SplitMix64.{SplitMix64}
 
 -- the rest of a list, as it is lent from a place on
 pub rest-is : (base : ℕ) (xs : List Float) → part base (length xs - base) xs ≡ drop base xs
@@ -67,7 +68,8 @@ vectors-take l count c xs h g =
     tab-cong (λ k. part (k * l) l (take c xs)) (λ k. part (k * l) l xs) count (λ k e. part-take (k * l) l c xs (omega (arith, room k count l e)) g)
 
 -- two walks are equal where their parts are
-pub walk-path : {x x' ax ax' : List Float} {free free' blocked blocked' : List ℕ} {frozen frozen' rng rng' : ℕ} {basis basis' : List (List Float)}
+pub walk-path : {x x' ax ax' : List Float} {free free' blocked blocked' : List ℕ} {frozen frozen' : ℕ} {rng rng' : SplitMix64}
+    {basis basis' : List (List Float)}
     → x ≡ x' → free ≡ free' → frozen ≡ frozen' → ax ≡ ax' → blocked ≡ blocked' → basis ≡ basis' → rng ≡ rng'
     → _≡_ {A = Walk} (record { x = x; free = free; frozen = frozen; ax = ax; blocked = blocked; basis = basis; rng = rng })
     (record { x = x'; free = free'; frozen = frozen'; ax = ax'; blocked = blocked'; basis = basis'; rng = rng' })

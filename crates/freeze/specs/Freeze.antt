@@ -14,6 +14,7 @@ use Rattle.ieee.specs.Constants.{one}
 use Rattle.entries.specs.Rows.{rowOf}
 use Rattle.order.specs.Order.{worstTo}
 use Rattle.seq.specs.Marks.{isSet}
+use Rattle.draw.specs.declared.SplitMix64.{SplitMix64}
 
 -- The coordinates of the phase's l columns, which of them are free, how many froze in this phase, A x,
 -- which rows are blocked, the basis that directions are projected out of, and the generator.
@@ -24,7 +25,7 @@ pub record Walk : Type 0 where
   pub ax : List Float
   pub blocked : List ℕ
   pub basis : List (List Float)
-  pub rng : ℕ
+  pub rng : SplitMix64
 
 -- the vector with 1.0 at p
 abbrev pub axis : ℕ → ℕ → List Float

@@ -12,6 +12,7 @@ use Rattle.seq.specs.Sums.{plusZero}
 use Rattle.linear.specs.Held.{vectorsIn}
 use Rattle.order.specs.Order.{worstTo}
 use Rattle.freeze.specs.Freeze.{Walk, blocking}
+use Rattle.draw.specs.declared.SplitMix64.{SplitMix64}
 
 -- A x and A g, of so many rows
 abbrev pub axIn : ℕ → List Float → List Float
@@ -25,7 +26,7 @@ abbrev pub basisIn : ℕ → ℕ → ℕ → List Float → List (List Float)
 basisIn rows l count num = vectorsIn l count (drop (rows + rows + rows) num)
 
 -- the walk that the scratch, the vectors over the columns and the numbers hold
-abbrev pub held : List Float → List ℕ → List Float → List ℕ → ℕ → ℕ → ℕ → Walk
+abbrev pub held : List Float → List ℕ → List Float → List ℕ → ℕ → ℕ → SplitMix64 → Walk
 held num blocked x free count frozen rng = record {
   x = x;
   free = free;

@@ -15,6 +15,7 @@ ghost use Rattle.freeze.specs.Freeze.{axis, frozenAt, freezeTo};
 ghost use Rattle.entries.specs.Entries.{entryOf};
 ghost use Rattle.entries.specs.ChosenColumns.{Chosen};
 ghost use Rattle.freeze.specs.Held.{held, Roomy, Blocked};
+ghost use Rattle.draw.specs.declared.SplitMix64.{SplitMix64};
 
 // The vector with 1.0 at p.
 fn axis_into(v: &mut [f64], p: usize)
@@ -94,7 +95,7 @@ fn freeze_at(
 ) -> usize
     requires { ⌜ Chosen (now u) n (now cols) (now scale) (length (now blocked)) × Roomy (length (now cols)) (now num)
         (now blocked) (now x) (now free) count × (length (now v) ≡ length (now cols)) × (p < length (now cols)) ⌝ }
-    ensures { λ r. ⌜ ((frozen rng : ℕ) → held (now (num .exit)) (now (blocked .exit)) (now (x .exit)) (now (free .exit)) r
+    ensures { λ r. ⌜ ((frozen : ℕ) (rng : SplitMix64) → held (now (num .exit)) (now (blocked .exit)) (now (x .exit)) (now (free .exit)) r
         (frozen + 1) rng ≡ frozenAt plusZero (entryOf (now (u .entry)) n (now (cols .entry)) (now (scale .entry)))
         (length (now (cols .entry))) (length (now (blocked .entry)))
         (held (now (num .entry)) (now (blocked .entry)) (now (x .entry)) (now (free .entry)) count frozen rng) p) ⌝ }
@@ -128,7 +129,7 @@ pub fn freeze(
 ) -> Frozen
     requires { ⌜ Chosen (now u) n (now cols) (now scale) (length (now blocked)) × Roomy (length (now cols)) (now num)
         (now blocked) (now x) (now free) (from .count) × (length (now v) ≡ length (now cols)) × (from .frozen ≤ 256) ⌝ }
-    ensures { λ r. ⌜ ((rng : ℕ) → held (now (num .exit)) (now (blocked .exit)) (now (x .exit)) (now (free .exit))
+    ensures { λ r. ⌜ ((rng : SplitMix64) → held (now (num .exit)) (now (blocked .exit)) (now (x .exit)) (now (free .exit))
         (r .count) (r .frozen) rng ≡ freezeTo plusZero
         (entryOf (now (u .entry)) n (now (cols .entry)) (now (scale .entry))) (length (now (cols .entry)))
         (length (now (blocked .entry))) (held (now (num .entry)) (now (blocked .entry)) (now (x .entry))

@@ -20,6 +20,7 @@ use Rattle.limits.specs.Matrix.{columnsOf}
 use Rattle.doubling.specs.Doubling.{remaining, scaleAt, sigmaOf, halvedTo}
 use Rattle.halve.specs.Halve.{scaledColumns, halvedOnce}
 use Rattle.halve.specs.Handed.{halvesOf, HalvedBy}
+use Rattle.draw.specs.declared.SplitMix64.{SplitMix64}
 
 module _ (u : List Float) (n : ℕ) (w : List Float) (ω : Float) (r : List ℕ) (whole : length u ≡ length w * n)
     (inside : (p : ℕ) → p < length r → getD r p 0 < length w) where
@@ -42,12 +43,12 @@ module _ (u : List Float) (n : ℕ) (w : List Float) (ω : Float) (r : List ℕ)
           let under : n ≤ i = omega arith in
           entry-under u n r scales p i (column-inside p l) under ∙ rw (le-ltb i n under, own)
 
-  pub colours-same : (rng : ℕ) → coloringOf plusZero (entryOf u n r scales) (length r) (n + 1) rng ≡ coloringOf plusZero
+  pub colours-same : (rng : SplitMix64) → coloringOf plusZero (entryOf u n r scales) (length r) (n + 1) rng ≡ coloringOf plusZero
       (scaledColumns (columnsOf u n) n w ω r) (length r) (suc n) rng
   colours-same rng = rw (add-one n) (coloring-same (entryOf u n r scales) (scaledColumns (columnsOf u n) n w ω r) (length r) (suc n) entry-same plusZero rng)
 
   -- the halving by these colours, from what each call ensures
-  pub halved-by : (rng : ℕ) (scale x : List Float) (rows : ℕ) (sigma : Float) (v : List Float) (s : ℕ)
+  pub halved-by : (rng : SplitMix64) (scale x : List Float) (rows : ℕ) (sigma : Float) (v : List Float) (s : SplitMix64)
       → scale ≡ scales → rows ≡ n + 1 → x ≡ coloringOf plusZero (entryOf u n r scale) (length r) rows rng .x
       → s ≡ coloringOf plusZero (entryOf u n r scale) (length r) rows rng .rng → sigma ≡ sigmaOf x → v ≡ halvedTo w r x sigma (length r)
       → HalvedBy (coloringOf plusZero (scaledColumns (columnsOf u n) n w ω r) (length r) (suc n) rng) w r v s
@@ -62,12 +63,12 @@ module _ (u : List Float) (n : ℕ) (w : List Float) (ω : Float) (r : List ℕ)
 
 -- ---- one halving
 
-module _ (u : ℕ → ℕ → Float) (n : ℕ) (w : List Float) (ω : Float) (rest : List ℕ) (rng : ℕ) where
+module _ (u : ℕ → ℕ → Float) (n : ℕ) (w : List Float) (ω : Float) (rest : List ℕ) (rng : SplitMix64) where
   pub halve-none : length (remaining w rest) ≡ 0 → halvesOf w rng ≡ halvedOnce plusZero u n ω rest (halvesOf w rng)
   unfolding halvedOnce
   halve-none e = rw (eq-eqb (length (remaining w rest)) 0 e)
 
-  pub halve-some : (length (remaining w rest) ≡ 0 → ⊥) → (v : List Float) (s : ℕ)
+  pub halve-some : (length (remaining w rest) ≡ 0 → ⊥) → (v : List Float) (s : SplitMix64)
       → HalvedBy (coloringOf plusZero (scaledColumns u n w ω (remaining w rest)) (length (remaining w rest)) (suc n) rng) w (remaining w rest) v s
       → halvesOf v s ≡ halvedOnce plusZero u n ω rest (halvesOf w rng)
   unfolding halvedOnce

@@ -9,6 +9,7 @@ use Rattle.seq.specs.Choice.{pick}
 use Rattle.ieee.specs.Magnitude.{absOf}
 use Rattle.coloring.specs.Coloring.{Colored, coloringOf}
 use Rattle.doubling.specs.Doubling.{remaining, scaleAt, sigmaOf, halvedTo}
+use Rattle.draw.specs.declared.SplitMix64.{SplitMix64}
 
 -- the columns of some indices, each scaled by its weight over ω, with the row of the scales' magnitudes under them
 abbrev pub scaledColumns : (ℕ → ℕ → Float) → ℕ → List Float → Float → List ℕ → ℕ → ℕ → Float
@@ -18,7 +19,7 @@ scaledColumns u n w omega rest p i =
 -- weights, and the generator that runs on
 pub record Halved : Type 0 where
   pub w : List Float
-  pub rng : ℕ
+  pub rng : SplitMix64
 
 -- the remaining rest coloured and halved, where there is any
 unfoldable pub halvedOnce : Float → (ℕ → ℕ → Float) → ℕ → Float → List ℕ → Halved → Halved

@@ -11,6 +11,7 @@ use Rattle.coloring.specs.Coloring.{Colored}
 use Rattle.seq.specs.Indices.{Below}
 use Rattle.doubling.specs.Doubling.{halvedTo, sigmaOf}
 use Rattle.halve.specs.Halve.{Halved}
+use Rattle.draw.specs.declared.SplitMix64.{SplitMix64}
 
 -- a colouring of some indices has its columns and its scratch
 pub record Lent (u : List Float) (n : ℕ) (w : List Float) (some : List ℕ) (scale x numbers : List Float) (blocked : List ℕ) : Type 0 where
@@ -25,7 +26,7 @@ pub record Lent (u : List Float) (n : ℕ) (w : List Float) (some : List ℕ) (s
   pub small : bounded one u ≡ true
 
 -- w is v with the weights at some indices halved by the colours c, and s the generator after them
-pub record HalvedBy (c : Colored) (v : List Float) (some : List ℕ) (w : List Float) (s : ℕ) : Type 0 where
+pub record HalvedBy (c : Colored) (v : List Float) (some : List ℕ) (w : List Float) (s : SplitMix64) : Type 0 where
   pub weights : w ≡ halvedTo v some (c .x) (sigmaOf (c .x)) (length some)
   pub rng : s ≡ c .rng
 
@@ -39,5 +40,5 @@ pub record Ready (u : List Float) (n : ℕ) (w numbers : List Float) (indices : 
   pub small : bounded one u ≡ true
 
 -- weights and a generator
-abbrev pub halvesOf : List Float → ℕ → Halved
+abbrev pub halvesOf : List Float → SplitMix64 → Halved
 halvesOf w rng = record { w = w; rng = rng }

@@ -31,8 +31,7 @@ fn halve_some(
     requires { ⌜ Lent (now matrix) n (now w) (now some) (now scale) (now x) (now numbers) (now blocked) ⌝ }
     ensures { λ r. ⌜ HalvedBy (coloringOf plusZero
         (scaledColumns (columnsOf (now (matrix .entry)) n) n (now (w .entry)) omega (now (some .entry)))
-        (length (now (some .entry))) (suc n) (rng .state)) (now (w .entry)) (now (some .entry)) (now (w .exit))
-        (r .state) ⌝ }
+        (length (now (some .entry))) (suc n) rng) (now (w .entry)) (now (some .entry)) (now (w .exit)) r ⌝ }
 {
     scales_into(&mut scale[..], &w[..], omega, some);
     let c = coloring(
@@ -64,9 +63,9 @@ pub fn halve(
 ) -> SplitMix64
     requires { ⌜ Ready (now matrix) n (now w) (now numbers) (now indices) × Below (now rest) (length (now w))
         × (length (now rest) ≤ length (now w)) ⌝ }
-    ensures { λ r. ⌜ halvesOf (now (w .exit)) (r .state)
+    ensures { λ r. ⌜ halvesOf (now (w .exit)) r
         ≡ halvedOnce plusZero (columnsOf (now (matrix .entry)) n) n omega (now (rest .entry))
-        (halvesOf (now (w .entry)) (rng .state)) ⌝ }
+        (halvesOf (now (w .entry)) rng) ⌝ }
 {
     let mut some = [0u32; 256];
     let mut scale = [0.0f64; 256];

@@ -17,6 +17,7 @@ use Rattle.halve.specs.Halve.{halvedOnce}
 use Rattle.halve.specs.Handed.{halvesOf}
 use Rattle.halving.specs.Halving.{halvedTwice, passOf}
 use Rattle.halving.proofs.Rest.{length-ranked, length-rest, rest-some, rest-on}
+use Rattle.draw.specs.declared.SplitMix64.{SplitMix64}
 
 pub support-below : (w : List Float) (some : List ℕ) → some ≡ support w → Below some (length w)
 support-below w some e = rw e (record { below = λ i l. keep-good (isOn w) (length w) i l .1 })
@@ -42,7 +43,7 @@ kept-within w order kept e k h = let long : length order ≡ nonzeros w = ap len
 
 -- ---- the pass
 
-pub pass-holds : (u : ℕ → ℕ → Float) (n : ℕ) (w v t out : List Float) (rest : List ℕ) (ω : Float) (a b c : ℕ)
+pub pass-holds : (u : ℕ → ℕ → Float) (n : ℕ) (w v t out : List Float) (rest : List ℕ) (ω : Float) (a b c : SplitMix64)
     → rest ≡ restOf w → ω ≡ absOf (at w (getD rest 0 0))
     → halvesOf v b ≡ halvedOnce plusZero u n ω rest (halvesOf w a)
     → halvesOf t c ≡ halvedOnce plusZero u n ω rest (halvesOf v b)

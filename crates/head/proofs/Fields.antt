@@ -14,12 +14,13 @@ use Rattle.fields.proofs.Widths.{count-next}
 use Rattle.fields.specs.declared.Field.{Field}
 use Rattle.rules.specs.declared.Cap.the-variants.{Absent, AtMost}
 use Rattle.rules.specs.declared.Rule.the-variants.{Within}
-use Rattle.head.specs.Words.{thinWord, targetWord, withinWord, dash}
-use Rattle.head.specs.FirstLine.{capAt, targetAt, withinAt, noRule, ruleAt, sizesAt, headOf}
+use Rattle.head.specs.Words.{thinWord, targetWord, withinWord, secondEdition, dash}
+use Rattle.head.specs.FirstLine.{capAt, targetAt, withinAt, noRule, ruleAt, sizesAt, editionAt, headOf}
 use Rattle.head.proofs.Places.{sizes-next, rule-next}
 use Rattle.head.specs.declared.CapField.{CapField}
 use Rattle.head.specs.declared.RuleField.{RuleField}
 use Rattle.head.specs.declared.Sizes.{Sizes}
+use Rattle.head.specs.declared.EditionField.{EditionField}
 
 pub cap-dash : (t : List ℕ) (i b : ℕ) → b ≡ byteAt t i → b ≡ 45 → record { ok = true; cap = Absent; next = i + 1 } ≡ capAt t i
 unfolding capAt
@@ -56,7 +57,7 @@ sizes-is t i b d f g e p h q =
 -- an allowance and a cap, from the bits, the byte between and the cap
 pub within-is : (t : List ℕ) (i b : ℕ) (f : Field) (d : Float) (k : CapField) → f ≡ bitsAt t i → b ≡ byteAt t (i + 16) → k ≡ capAt
     t (i + 17) → d ≡ ofBits binary64 (f .value)
-    → record { ok = f .ok && (eqb b 9 && k .ok); rule = Within d (k .cap); next = k .next } ≡ withinAt t i
+    → record { ok = f .ok && (eqb b 9 && k .ok); rule = Within d (k .cap); allowance = f .value; next = k .next } ≡ withinAt t i
 unfolding withinAt
 within-is t i b f d k e p h q = rw (q, p, h, e)
 
@@ -82,21 +83,34 @@ next-sizes t i z e = omega (arith, ap (λ (x : Sizes). x .next) e, sizes-next t 
 pub next-rule : (t : List ℕ) (i : ℕ) (r : RuleField) → r ≡ ruleAt t i → r .next ≤ i + 35
 next-rule t i r e = omega (arith, ap (λ (x : RuleField). x .next) e, rule-next t i)
 
+-- the end of the line, by what stands there
+pub edition-two : (t : List ℕ) (i : ℕ) (s : Bool) → s ≡ spelled secondEdition t i → s ≡ true
+    → record { ok = true; edition = 2; next = i + 3 } ≡ editionAt t i
+unfolding editionAt
+edition-two t i s e h = rw (← e, h)
+
+pub edition-one : (t : List ℕ) (i b : ℕ) (s : Bool) → s ≡ spelled secondEdition t i → s ≡ false → b ≡ byteAt t i
+    → record { ok = eqb b 10; edition = 1; next = i + 1 } ≡ editionAt t i
+unfolding editionAt
+edition-one t i b s e h g = rw (← e, h, add-one i, g)
+
 -- the first line, from its parts
-pub head-is : (t : List ℕ) (s : Bool) (z : Sizes) (f : Field) (b d : ℕ) (r : RuleField) → s ≡ spelled thinWord t 0 → z ≡ sizesAt t 5 → f ≡ bitsAt t (z .next)
-    → b ≡ byteAt t (z .next + 16) → r ≡ ruleAt t (z .next + 17) → d ≡ byteAt t (r .next)
+pub head-is : (t : List ℕ) (s : Bool) (z : Sizes) (f : Field) (b : ℕ) (r : RuleField) (d : EditionField) → s ≡ spelled thinWord t 0
+    → z ≡ sizesAt t 5 → f ≡ bitsAt t (z .next) → b ≡ byteAt t (z .next + 16) → r ≡ ruleAt t (z .next + 17) → d ≡ editionAt t (r .next)
     → record {
-      ok = (s && z .ok) && ((f .ok && eqb b 9) && (r .ok && eqb d 10));
+      ok = (s && z .ok) && ((f .ok && eqb b 9) && (r .ok && d .ok));
       m = z .m;
       n = z .n;
       seed = f .value;
+      edition = d .edition;
       rule = r .rule;
-      next = r .next + 1;
+      allowance = r .allowance;
+      next = d .next;
     } ≡ headOf t
 unfolding headOf
-head-is t s z f b d r e p h q k l =
+head-is t s z f b r d e p h q k l =
     let h' : f ≡ bitsAt t (sizesAt t 5 .next) = h ∙ ap (λ (x : Sizes). bitsAt t (x .next)) p in
     let q' : b ≡ byteAt t (sizesAt t 5 .next + 16) = q ∙ ap (λ (x : Sizes). byteAt t (x .next + 16)) p in
     let k' : r ≡ ruleAt t (sizesAt t 5 .next + 17) = k ∙ ap (λ (x : Sizes). ruleAt t (x .next + 17)) p in
-    let l' : d ≡ byteAt t (ruleAt t (sizesAt t 5 .next + 17) .next) = l ∙ ap (λ (x : RuleField). byteAt t (x .next)) k' in
-    rw (add-one (r .next), e, h', q', l', k', p)
+    let l' : d ≡ editionAt t (ruleAt t (sizesAt t 5 .next + 17) .next) = l ∙ ap (λ (x : RuleField). editionAt t (x .next)) k' in
+    rw (e, h', q', l', k', p)

@@ -5,11 +5,11 @@ use mathlib.Core.Path.{_≡_}
 use mathlib.Core.Bool.{Bool, true, _&&_}
 use mathlib.Core.List.{List}
 use lib.Dec.{eqb, leb}
-use Rattle.fields.specs.Bytes.{tab, newline, byteAt, spelled}
+use Rattle.fields.specs.Bytes.{tab, byteAt, spelled}
 use Rattle.fields.specs.Fields.{isBits, countAt}
 use Rattle.seq.proofs.Choosing.{both}
 use Rattle.head.specs.Words.{thinWord}
-use Rattle.head.specs.FirstLine.{ruleAt, sizesAt, headOf}
+use Rattle.head.specs.FirstLine.{ruleAt, sizesAt, editionAt, headOf}
 use Rattle.head.specs.declared.RuleField.{RuleField}
 
 -- what two counts and the tabs behind them are, where the sizes are of the form
@@ -45,18 +45,18 @@ pub record GoodHead (t : List ℕ) (i j : ℕ) : Type 0 where
   pub seed : isBits t i ≡ true
   pub parted : eqb (byteAt t (i + 16)) tab ≡ true
   pub rule : ruleAt t j .ok ≡ true
-  pub closed : eqb (byteAt t (ruleAt t j .next)) newline ≡ true
+  pub closed : editionAt t (ruleAt t j .next) .ok ≡ true
 
 pub good-head : (t : List ℕ) → headOf t .ok ≡ true → GoodHead t (sizesAt t 5 .next) (sizesAt t 5 .next + 17)
 unfolding headOf
 good-head t h =
     let i : ℕ = sizesAt t 5 .next in
     let r : RuleField = ruleAt t (i + 17) in
-    let e = both (spelled thinWord t 0 && sizesAt t 5 .ok) ((isBits t i && eqb (byteAt t (i + 16)) tab) && (r .ok && eqb (byteAt t (r .next)) newline)) h in
+    let e = both (spelled thinWord t 0 && sizesAt t 5 .ok) ((isBits t i && eqb (byteAt t (i + 16)) tab) && (r .ok && editionAt t (r .next) .ok)) h in
     let a = both (spelled thinWord t 0) (sizesAt t 5 .ok) (e .0) in
-    let b = both (isBits t i && eqb (byteAt t (i + 16)) tab) (r .ok && eqb (byteAt t (r .next)) newline) (e .1) in
+    let b = both (isBits t i && eqb (byteAt t (i + 16)) tab) (r .ok && editionAt t (r .next) .ok) (e .1) in
     let c = both (isBits t i) (eqb (byteAt t (i + 16)) tab) (b .0) in
-    let d = both (r .ok) (eqb (byteAt t (r .next)) newline) (b .1) in
+    let d = both (r .ok) (editionAt t (r .next) .ok) (b .1) in
     record { opened = a .0; sizes = a .1; seed = c .0; parted = c .1; rule = d .0; closed = d .1 }
 
 -- what it says of the sizes

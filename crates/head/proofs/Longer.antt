@@ -15,8 +15,8 @@ use Rattle.fields.proofs.Widths.{count-next}
 use Rattle.fields.proofs.Longer.{byte-longer, spelled-longer, bits-at-longer, count-longer-12}
 use Rattle.rules.specs.declared.Cap.the-variants.{Absent, AtMost}
 use Rattle.rules.specs.declared.Rule.the-variants.{Target}
-use Rattle.head.specs.Words.{thinWord, targetWord, withinWord, dash}
-use Rattle.head.specs.FirstLine.{capAt, targetAt, withinAt, noRule, ruleAt, sizesAt, headOf}
+use Rattle.head.specs.Words.{thinWord, targetWord, withinWord, secondEdition, dash}
+use Rattle.head.specs.FirstLine.{capAt, targetAt, withinAt, noRule, ruleAt, sizesAt, editionAt, headOf}
 use Rattle.head.specs.declared.CapField.{CapField}
 use Rattle.head.specs.declared.RuleField.{RuleField}
 use Rattle.head.proofs.Places.{sizes-next, rule-next}
@@ -46,7 +46,7 @@ rule-longer t more i h =
     same-rule (spelled targetWord (t ++ more) i) (spelled targetWord t i) (spelled withinWord (t ++ more) i) (spelled withinWord t i)
     (targetAt (t ++ more) (i + 7)) (targetAt t (i + 7)) (withinAt (t ++ more) (i + 7)) (withinAt t (i + 7)) noRule
     (spelled-longer targetWord t more i (omega arith)) (spelled-longer withinWord t more i (omega arith))
-    (ap (λ (f : Field). record { ok = f .ok; rule = Target (f .value); next = f .next }) (count-longer-12 t more (i + 7) (omega arith)))
+    (ap (λ (f : Field). record { ok = f .ok; rule = Target (f .value); allowance = 0; next = f .next }) (count-longer-12 t more (i + 7) (omega arith)))
     (within-longer t more (i + 7) (omega arith))
 
 sizes-longer : (t more : List ℕ) (i : ℕ) → i + 24 ≤ length t → sizesAt (t ++ more) i ≡ sizesAt t i
@@ -60,6 +60,10 @@ sizes-longer t more i h =
     (sym (count-longer-12 t more (j + 1) (omega arith))) (sym (byte-longer t more (g .next) (omega arith))))
     ∙ sizes-is t i (byteAt t j) (byteAt t (g .next)) (countAt t i) g refl refl refl refl
 
+edition-longer : (t more : List ℕ) (i : ℕ) → i + 3 ≤ length t → editionAt (t ++ more) i ≡ editionAt t i
+unfolding editionAt
+edition-longer t more i h = rw (spelled-longer secondEdition t more i h, byte-longer t more i (omega arith))
+
 -- the first line of a text of at least 100 bytes is that of every text that it begins
 pub head-longer : (t more : List ℕ) → 100 ≤ length t → headOf (t ++ more) ≡ headOf t
 head-longer t more h =
@@ -67,7 +71,7 @@ head-longer t more h =
     let j : ℕ = ruleAt t (i + 17) .next in
     let a : i ≤ 5 + 24 = sizes-next t 5 in
     let b : j ≤ i + 17 + 35 = rule-next t (i + 17) in
-    sym (head-is (t ++ more) (spelled thinWord t 0) (sizesAt t 5) (bitsAt t i) (byteAt t (i + 16)) (byteAt t j) (ruleAt t (i + 17))
+    sym (head-is (t ++ more) (spelled thinWord t 0) (sizesAt t 5) (bitsAt t i) (byteAt t (i + 16)) (ruleAt t (i + 17)) (editionAt t j)
     (sym (spelled-longer thinWord t more 0 (omega arith))) (sym (sizes-longer t more 5 (omega arith))) (sym (bits-at-longer t more i (omega arith)))
-    (sym (byte-longer t more (i + 16) (omega arith))) (sym (rule-longer t more (i + 17) (omega arith))) (sym (byte-longer t more j (omega arith))))
-    ∙ head-is t (spelled thinWord t 0) (sizesAt t 5) (bitsAt t i) (byteAt t (i + 16)) (byteAt t j) (ruleAt t (i + 17)) refl refl refl refl refl refl
+    (sym (byte-longer t more (i + 16) (omega arith))) (sym (rule-longer t more (i + 17) (omega arith))) (sym (edition-longer t more j (omega arith))))
+    ∙ head-is t (spelled thinWord t 0) (sizesAt t 5) (bitsAt t i) (byteAt t (i + 16)) (ruleAt t (i + 17)) (editionAt t j) refl refl refl refl refl refl

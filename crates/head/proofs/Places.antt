@@ -8,10 +8,11 @@ use Rattle.seq.specs.Choice.{pick}
 use Rattle.fields.specs.Bytes.{byteAt, spelled}
 use Rattle.fields.specs.Fields.{countAt}
 use Rattle.fields.proofs.Widths.{count-next}
-use Rattle.head.specs.Words.{targetWord, withinWord, dash}
-use Rattle.head.specs.FirstLine.{capAt, withinAt, ruleAt, sizesAt, headOf}
+use Rattle.head.specs.Words.{targetWord, withinWord, secondEdition, dash}
+use Rattle.head.specs.FirstLine.{capAt, withinAt, ruleAt, sizesAt, editionAt, headOf}
 use Rattle.head.specs.declared.CapField.{CapField}
 use Rattle.head.specs.declared.RuleField.{RuleField}
+use Rattle.head.specs.declared.EditionField.{EditionField}
 
 -- where a choice of two caps goes on
 pick-cap : (t : Bool) (a b : CapField) (k : ℕ) → a .next ≤ k → b .next ≤ k → pick t a b .next ≤ k
@@ -22,6 +23,11 @@ pick-cap false a b k h g = g
 pick-rule : (t : Bool) (a b : RuleField) (k : ℕ) → a .next ≤ k → b .next ≤ k → pick t a b .next ≤ k
 pick-rule true a b k h g = h
 pick-rule false a b k h g = g
+
+-- and of two ends of the line
+pick-edition : (t : Bool) (a b : EditionField) (k : ℕ) → a .next ≤ k → b .next ≤ k → pick t a b .next ≤ k
+pick-edition true a b k h g = h
+pick-edition false a b k h g = g
 
 pub cap-next : (t : List ℕ) (i : ℕ) → capAt t i .next ≤ i + 11
 unfolding capAt
@@ -41,7 +47,13 @@ pub sizes-next : (t : List ℕ) (i : ℕ) → sizesAt t i .next ≤ i + 24
 unfolding sizesAt
 sizes-next t i = omega (arith, count-next t i, count-next t (suc (countAt t i .next)))
 
--- the first line has at most 82 bytes
-pub head-next : (t : List ℕ) → headOf t .next ≤ 82
+pub edition-next : (t : List ℕ) (i : ℕ) → editionAt t i .next ≤ i + 3
+unfolding editionAt
+edition-next t i = pick-edition (spelled secondEdition t i) _ _ (i + 3) (omega arith) (omega arith)
+
+-- the first line has at most 84 bytes
+pub head-next : (t : List ℕ) → headOf t .next ≤ 84
 unfolding headOf
-head-next t = omega (arith, sizes-next t 5, rule-next t (sizesAt t 5 .next + 17))
+head-next t =
+    let i : ℕ = sizesAt t 5 .next in
+    omega (arith, sizes-next t 5, rule-next t (i + 17), edition-next t (ruleAt t (i + 17) .next))

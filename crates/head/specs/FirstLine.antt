@@ -9,10 +9,11 @@ use Rattle.fields.specs.Bytes.{tab, newline, byteAt, spelled}
 use Rattle.fields.specs.Fields.{isBits, bitsAt, countAt}
 use Rattle.rules.specs.declared.Cap.the-variants.{Absent, AtMost}
 use Rattle.rules.specs.declared.Rule.the-variants.{Target, Within}
-use Rattle.head.specs.Words.{thinWord, targetWord, withinWord, dash}
+use Rattle.head.specs.Words.{thinWord, targetWord, withinWord, secondEdition, dash}
 use Rattle.head.specs.declared.CapField.{CapField}
 use Rattle.head.specs.declared.RuleField.{RuleField}
 use Rattle.head.specs.declared.Sizes.{Sizes}
+use Rattle.head.specs.declared.EditionField.{EditionField}
 use Rattle.head.specs.declared.Head.{Head}
 
 -- the cap at i: a dash or a count
@@ -24,11 +25,11 @@ capAt text i =
 
 -- no rule
 abbrev pub noRule : RuleField
-noRule = record { ok = false; rule = Target 0; next = 0 }
+noRule = record { ok = false; rule = Target 0; allowance = 0; next = 0 }
 
 -- the target at i, which stands after its word
 abbrev pub targetAt : List ℕ → ℕ → RuleField
-targetAt text i = record { ok = countAt text i .ok; rule = Target (countAt text i .value); next = countAt text i .next }
+targetAt text i = record { ok = countAt text i .ok; rule = Target (countAt text i .value); allowance = 0; next = countAt text i .next }
 
 -- the allowance at i and the cap behind it, which stand after their word
 unfoldable pub withinAt : List ℕ → ℕ → RuleField
@@ -36,6 +37,7 @@ withinAt text i =
     record {
       ok = isBits text i && (eqb (byteAt text (i + 16)) tab && capAt text (i + 17) .ok);
       rule = Within (ofBits binary64 (bitsAt text i .value)) (capAt text (i + 17) .cap);
+      allowance = bitsAt text i .value;
       next = capAt text (i + 17) .next;
     }
 
@@ -57,17 +59,26 @@ sizesAt text i =
       next = suc (countAt text j .next);
     }
 
--- the first line: "thin", the sizes, the seed and the rule
+-- the end of the first line, at i: a newline for edition 1, and a tab, "2" and a newline for edition 2
+unfoldable pub editionAt : List ℕ → ℕ → EditionField
+editionAt text i =
+    pick (spelled secondEdition text i) (record { ok = true; edition = 2; next = i + 3 })
+    (record { ok = eqb (byteAt text i) newline; edition = 1; next = suc i })
+
+-- the first line: "thin", the sizes, the seed, the rule and the edition
 unfoldable pub headOf : List ℕ → Head
 headOf text =
     let s : Sizes = sizesAt text 5 in
     let r : RuleField = ruleAt text (s .next + 17) in
+    let e : EditionField = editionAt text (r .next) in
     record {
       ok = (spelled thinWord text 0 && s .ok)
-          && ((isBits text (s .next) && eqb (byteAt text (s .next + 16)) tab) && (r .ok && eqb (byteAt text (r .next)) newline));
+          && ((isBits text (s .next) && eqb (byteAt text (s .next + 16)) tab) && (r .ok && e .ok));
       m = s .m;
       n = s .n;
       seed = bitsAt text (s .next) .value;
+      edition = e .edition;
       rule = r .rule;
-      next = suc (r .next);
+      allowance = r .allowance;
+      next = e .next;
     }

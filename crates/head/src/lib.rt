@@ -1,4 +1,5 @@
-// The first line of a sheet, which fixes where every column stands: the counts of columns and rows, the seed and the rule.
+// The first line of a sheet, which fixes where every column stands: the counts of columns and rows, the seed, the rule and
+// the edition.
 use fields::bits_at;
 use fields::byte_at;
 use fields::count_at;
@@ -8,7 +9,7 @@ use rules::Rule;
 ghost use mathlib.Core.Path.{_≡_};
 ghost use lib.Ieee.{binary64, ofBits};
 ghost use Prim.Native.Nat.{_+_, _≤_};
-ghost use Rattle.head.specs.FirstLine.{capAt, ruleAt, targetAt, withinAt, sizesAt, headOf};
+ghost use Rattle.head.specs.FirstLine.{capAt, ruleAt, targetAt, withinAt, sizesAt, editionAt, headOf};
 
 // A cap at a place: whether it is of its form, the cap, and where the text goes on.
 pub struct CapField {
@@ -17,10 +18,18 @@ pub struct CapField {
     pub next: usize,
 }
 
-// A rule at a place.
+// A rule at a place, with the bits of its allowance, 0 where it has none.
 pub struct RuleField {
     pub ok: bool,
     pub rule: Rule,
+    pub allowance: u64,
+    pub next: usize,
+}
+
+// The edition at a place, where the first line ends.
+pub struct EditionField {
+    pub ok: bool,
+    pub edition: u32,
     pub next: usize,
 }
 
@@ -38,7 +47,9 @@ pub struct Head {
     pub m: usize,
     pub n: usize,
     pub seed: u64,
+    pub edition: u32,
     pub rule: Rule,
+    pub allowance: u64,
     pub next: usize,
 }
 
@@ -82,6 +93,7 @@ fn target_at(text: &[u8], at: usize) -> RuleField
     RuleField {
         ok: count.ok,
         rule: Rule::Target(count.value as usize),
+        allowance: 0,
         next: count.next,
     }
 }
@@ -99,6 +111,7 @@ fn within_at(text: &[u8], at: usize) -> RuleField
     RuleField {
         ok: bits.ok & (parted & field.ok),
         rule: Rule::Within { allowance, cap },
+        allowance: bits.value,
         next: field.next,
     }
 }
@@ -117,6 +130,7 @@ fn rule_at(text: &[u8], at: usize) -> RuleField
     RuleField {
         ok: false,
         rule: Rule::Target(0),
+        allowance: 0,
         next: 0,
     }
 }
@@ -139,7 +153,26 @@ fn sizes_at(text: &[u8], at: usize) -> Sizes
     }
 }
 
-// The first line: "thin", the sizes, the seed and the rule.
+// The end of the first line, at a place: a newline for edition 1, and a tab, "2" and a newline for edition 2.
+fn edition_at(text: &[u8], at: usize) -> EditionField
+    requires { ⌜ at + 3 ≤ 65536 ⌝ }
+    ensures { λ r. ⌜ r ≡ editionAt (now (text .entry)) at ⌝ }
+{
+    if spells(b"\t2\n", text, at) {
+        return EditionField {
+            ok: true,
+            edition: 2,
+            next: at + 3,
+        };
+    }
+    EditionField {
+        ok: byte_at(text, at) == b'\n',
+        edition: 1,
+        next: at + 1,
+    }
+}
+
+// The first line: "thin", the sizes, the seed, the rule and the edition.
 pub fn head_of(text: &[u8]) -> Head
     ensures { λ r. ⌜ r ≡ headOf (now (text .entry)) ⌝ }
 {
@@ -148,14 +181,16 @@ pub fn head_of(text: &[u8]) -> Head
     let seed = bits_at(text, sizes.next);
     let parted = byte_at(text, sizes.next + 16) == b'\t';
     let field = rule_at(text, sizes.next + 17);
-    let closed = byte_at(text, field.next) == b'\n';
+    let last = edition_at(text, field.next);
     let rule = field.rule;
     Head {
-        ok: (opened & sizes.ok) & ((seed.ok & parted) & (field.ok & closed)),
+        ok: (opened & sizes.ok) & ((seed.ok & parted) & (field.ok & last.ok)),
         m: sizes.m,
         n: sizes.n,
         seed: seed.value,
+        edition: last.edition,
         rule,
-        next: field.next + 1,
+        allowance: field.allowance,
+        next: last.next,
     }
 }

@@ -1,5 +1,6 @@
--- The starred cases hold, each for every seed. What is not draw is computed: the normalized weights, their order, the changes. A pass on two weights leaves the
--- larger alone whatever the colouring gives (C8), so that stage 1 is known; then the tests that stop a job are computed too.
+-- The starred cases hold, each for every seed and edition. What is not draw is computed: the normalized weights, their order, the changes.
+-- A pass on two weights leaves the larger alone whatever the colouring gives (C8), so that stage 1 is known; then the tests that stop a job
+-- are computed too.
 use Prim.Native.Nat.{ℕ, zero, suc, _-_, _^_, _<_}
 use mathlib.Core.Path.{_≡_, refl, sym, ap, _∙_, subst}
 use mathlib.Core.Bool.{true, false}
@@ -24,13 +25,15 @@ use Rattle.halving.specs.Alone.{Largest, Alone}
 use Rattle.stages.specs.Stages.{stageOf}
 use Rattle.stages.specs.Stopping.{rests, stops}
 use Rattle.rules.specs.Rules.{ruleFault}
-use Rattle.faults.specs.Faults.{sizeFault, valueFault, jobFault}
+use Rattle.faults.specs.Faults.{editionFault, sizeFault, valueFault, jobFault}
 use Rattle.sparsification.specs.Answers.{refusal, answerAt, Thinned}
 use Rattle.sparsification.specs.declared.Answer.{Answer}
 use Rattle.rules.specs.declared.Cap.the-variants.{Absent, AtMost}
 use Rattle.rules.specs.declared.Rule.{Rule}
 use Rattle.rules.specs.declared.Rule.the-variants.{Target, Within}
-use Rattle.draw.specs.Uniform.{uniformAt}
+use Rattle.draw.specs.declared.SplitMix64.{SplitMix64}
+use Rattle.draw.specs.SplitMix.{seeded}
+use Rattle.draw.specs.Uniform.{uniformAt, uniformOf}
 use Rattle.draw.proofs.Cases.{state-becomes-zero, largest}
 use Rattle.margins.proofs.SmallCase.{answered}
 use Rattle.seq.proofs.Choosing.{first-holds}
@@ -82,17 +85,17 @@ module _ (a b : Float) where
 
 -- ---- stage 1 of two weights
 
-module _ (seed : ℕ) (a b : Float) (normal : Normal binary64 2 (at (a ∷ b ∷ []))) (both : nonzeros (a ∷ b ∷ []) ≡ 2) where
+module _ (source : SplitMix64) (a b : Float) (normal : Normal binary64 2 (at (a ∷ b ∷ []))) (both : nonzeros (a ∷ b ∷ []) ≡ 2) where
   abbrev next : List Float
-  next = stageOf plusZero columns 2 (a ∷ b ∷ []) seed 1 .w
+  next = stageOf plusZero columns 2 (a ∷ b ∷ []) source 1 .w
 
-  entries : nonzeros (stageOf plusZero columns 2 (a ∷ b ∷ []) seed 0 .w) ≡ 2
+  entries : nonzeros (stageOf plusZero columns 2 (a ∷ b ∷ []) source 0 .w) ≡ 2
   unfolding stageOf
   entries = both
 
   alone : (k : ℕ) → Largest (a ∷ b ∷ []) k → Alone (a ∷ b ∷ []) next k
   unfolding stageOf
-  alone = stage-alone columns 2 (a ∷ b ∷ []) seed normal (omega arith) 0 (λ j l. absurd (omega arith)) (omega (arith, entries)) (omega (arith, entries))
+  alone = stage-alone columns 2 (a ∷ b ∷ []) source normal (omega arith) 0 (λ j l. absurd (omega arith)) (omega (arith, entries)) (omega (arith, entries))
 
   first-left : isOn (a ∷ b ∷ []) 1 ≡ true → Largest (a ∷ b ∷ []) 0 → next ≡ signumOf a ∷ plusZero ∷ []
   first-left o p = let l = alone 0 p in pair next (signumOf a) plusZero (l .long) (l .there) (l .gone 1 (omega arith) o (λ e. omega arith))
@@ -100,18 +103,19 @@ module _ (seed : ℕ) (a b : Float) (normal : Normal binary64 2 (at (a ∷ b ∷
   second-left : isOn (a ∷ b ∷ []) 0 ≡ true → Largest (a ∷ b ∷ []) 1 → next ≡ plusZero ∷ signumOf b ∷ []
   second-left o p = let l = alone 1 p in pair next plusZero (signumOf b) (l .long) (l .gone 0 (omega arith) o (λ e. omega arith)) (l .there)
 
-stage-0 : (start : List Float) (seed : ℕ) → stageOf plusZero columns 2 start seed 0 .w ≡ start
+stage-0 : (start : List Float) (source : SplitMix64) → stageOf plusZero columns 2 start source 0 .w ≡ start
 unfolding stageOf
-stage-0 start seed = refl
+stage-0 start source = refl
 
 -- ---- a call on two weights
 
 -- with room, only the values can be refused for
-fault-is : (rule : Rule) (a b : Float) (output numbers : List Float) (indices : List ℕ) → ruleFault rule ≡ 0 → Room 2 2 output numbers indices
-    → jobFault rule matrix 2 2 (a ∷ b ∷ []) (length output) (length numbers) (length indices) ≡ valueFault matrix (a ∷ b ∷ [])
+fault-is : (rule : Rule) (edition : ℕ) (a b : Float) (output numbers : List Float) (indices : List ℕ) → ruleFault rule ≡ 0 → editionFault edition ≡ 0
+    → Room 2 2 output numbers indices
+    → jobFault rule edition matrix 2 2 (a ∷ b ∷ []) (length output) (length numbers) (length indices) ≡ valueFault matrix (a ∷ b ∷ [])
 unfolding jobFault sizeFault
-fault-is rule a b output numbers indices f room =
-    rw (f, room .places, le-ltb (length numbers) (numbersNeeded 2 2) (room .floats), le-ltb (length indices) (indicesNeeded 2 2) (room .words))
+fault-is rule edition a b output numbers indices f known room =
+    rw (f, known, room .places, le-ltb (length numbers) (numbersNeeded 2 2) (room .floats), le-ltb (length indices) (indicesNeeded 2 2) (room .words))
 
 doubles-of : (a b : Float) → T (fits binary64 a) → T (fits binary64 b) → Doubles (a ∷ b ∷ [])
 doubles-of a b p q zero = p
@@ -125,31 +129,33 @@ module _ (a b : Float) (start : List Float) (is : normalized plusZero (a ∷ b �
 
   -- a job that stops at stage k, where the weights are v
   module _ (rule : Rule) (k : ℕ) (v : List Float) (ruled : ruleFault rule ≡ 0)
-      (stop : (seed : ℕ) → Normal binary64 (length start) (at start)
-      → FirstStop plusZero columns 2 start seed rule k × (stageOf plusZero columns 2 start seed k .w ≡ v))
+      (stop : (source : SplitMix64) → Normal binary64 (length start) (at start)
+      → FirstStop plusZero columns 2 start source rule k × (stageOf plusZero columns 2 start source k .w ≡ v))
     where
-      answers : (seed : ℕ) (output numbers : List Float) (indices : List ℕ) (r : Answer) (output' numbers' : List Float) (indices' : List ℕ)
-          → Room 2 2 output numbers indices → Thinned rule seed matrix 2 2 (a ∷ b ∷ []) output numbers indices r output' numbers' indices'
-          → (r ≡ answerAt columns 2 start seed k) × (output' ≡ v)
-      answers seed output numbers indices r output' numbers' indices' room job =
-          let s = stop seed normal-of in
-          let f = fault-is rule a b output numbers indices ruled room ∙ sound in
-          let t = settled job doubles f k (subst (λ x. FirstStop plusZero columns 2 x seed rule k) (sym is) (s .0)) in (
-            t .0 ∙ ap (λ x. answerAt columns 2 x seed k) is,
-            t .1 ∙ ap (λ x. stageOf plusZero columns 2 x seed k .w) is ∙ s .1,
+      answers : (source : SplitMix64) (output numbers : List Float) (indices : List ℕ) (r : Answer) (output' numbers' : List Float) (indices' : List ℕ)
+          → editionFault (source .edition) ≡ 0 → Room 2 2 output numbers indices
+          → Thinned rule source matrix 2 2 (a ∷ b ∷ []) output numbers indices r output' numbers' indices'
+          → (r ≡ answerAt columns 2 start source k) × (output' ≡ v)
+      answers source output numbers indices r output' numbers' indices' known room job =
+          let s = stop source normal-of in
+          let f = fault-is rule (source .edition) a b output numbers indices ruled known room ∙ sound in
+          let t = settled job doubles f k (subst (λ x. FirstStop plusZero columns 2 x source rule k) (sym is) (s .0)) in (
+            t .0 ∙ ap (λ x. answerAt columns 2 x source k) is,
+            t .1 ∙ ap (λ x. stageOf plusZero columns 2 x source k .w) is ∙ s .1,
           )
 
-      called-so : {answer : Answer} → ((seed : ℕ) → Normal binary64 (length start) (at start) → answerAt columns 2 start seed k ≡ answer)
+      called-so : {answer : Answer} → ((source : SplitMix64) → Normal binary64 (length start) (at start) → answerAt columns 2 start source k ≡ answer)
           → called (a ∷ b ∷ []) (by rule) (λ output r output'. (r ≡ answer) × (output' ≡ v))
-      called-so e rule' seed output numbers indices r output' numbers' indices' c room job =
-          let t = answers seed output numbers indices r output' numbers' indices' room (rw c at job) in
-          (t .0 ∙ e seed normal-of, t .1)
+      called-so e rule' seed edition output numbers indices r output' numbers' indices' c known room job =
+          let t = answers (seeded seed edition) output numbers indices r output' numbers' indices' known room (rw c at job) in
+          (t .0 ∙ e (seeded seed edition) normal-of, t .1)
 
-at-0 : {start : List Float} {seed : ℕ} {rule : Rule} → stops plusZero columns 2 start seed rule 0 ≡ true → FirstStop plusZero columns 2 start seed rule 0
+at-0 : {start : List Float} {source : SplitMix64} {rule : Rule} → stops plusZero columns 2 start source rule 0 ≡ true
+    → FirstStop plusZero columns 2 start source rule 0
 at-0 h = record { there = h; before = λ i l. absurd (omega arith) }
 
-at-1 : {start : List Float} {seed : ℕ} {rule : Rule} → stops plusZero columns 2 start seed rule 0 ≡ false → stops plusZero columns
-    2 start seed rule 1 ≡ true → FirstStop plusZero columns 2 start seed rule 1
+at-1 : {start : List Float} {source : SplitMix64} {rule : Rule} → stops plusZero columns 2 start source rule 0 ≡ false → stops plusZero columns
+    2 start source rule 1 ≡ true → FirstStop plusZero columns 2 start source rule 1
 at-1 g h = record { there = h; before = λ i l. let e : i ≡ 0 = omega arith in rw e g }
 
 -- ---- C1 to C3: weights 1 and 3
@@ -169,46 +175,46 @@ sound-13 : valueFault matrix (one ∷ three ∷ []) ≡ 0
 unfolding valueFault allTo l1Of sumFrom ofBits add le lt eq
 sound-13 = refl
 
-module _ (seed : ℕ) (normal : Normal binary64 2 (at shares)) where
+module _ (source : SplitMix64) (normal : Normal binary64 2 (at shares)) where
   both-13 : nonzeros shares ≡ 2
   unfolding count ofBits ne
   both-13 = refl
 
-  next-13 : stageOf plusZero columns 2 shares seed 1 .w ≡ plusZero ∷ one ∷ []
+  next-13 : stageOf plusZero columns 2 shares source 1 .w ≡ plusZero ∷ one ∷ []
   unfolding heavier aboveOf ofBits ne lt
-  next-13 = second-left seed quarter threeQuarters normal both-13 refl (largest-second quarter threeQuarters refl refl)
+  next-13 = second-left source quarter threeQuarters normal both-13 refl (largest-second quarter threeQuarters refl refl)
 
   -- stage 1 measures 0.5
-  goes-1 : stops plusZero columns 2 shares seed (Within half Absent) 0 ≡ false
+  goes-1 : stops plusZero columns 2 shares source (Within half Absent) 0 ≡ false
   unfolding count ofBits ne maxChange changeTo maxAbsTo largerOf isNan lt le sub mul add
-  goes-1 = rw (stage-0 shares seed, next-13)
+  goes-1 = rw (stage-0 shares source, next-13)
 
-  stops-1 : stops plusZero columns 2 shares seed (Within half Absent) 1 ≡ true
+  stops-1 : stops plusZero columns 2 shares source (Within half Absent) 1 ≡ true
   unfolding count ofBits ne
   stops-1 = rw next-13
 
   -- which is above the allowance
-  stops-2 : stops plusZero columns 2 shares seed (Within underHalf Absent) 0 ≡ true
+  stops-2 : stops plusZero columns 2 shares source (Within underHalf Absent) 0 ≡ true
   unfolding count ofBits ne maxChange changeTo maxAbsTo largerOf isNan lt le sub mul add
-  stops-2 = rw (stage-0 shares seed, next-13)
+  stops-2 = rw (stage-0 shares source, next-13)
 
   -- the cap is not met before stage 1
-  goes-3 : stops plusZero columns 2 shares seed (Within plusZero (AtMost 1)) 0 ≡ false
+  goes-3 : stops plusZero columns 2 shares source (Within plusZero (AtMost 1)) 0 ≡ false
   unfolding count ofBits ne
-  goes-3 = rw (stage-0 shares seed)
+  goes-3 = rw (stage-0 shares source)
 
-  stops-3 : stops plusZero columns 2 shares seed (Within plusZero (AtMost 1)) 1 ≡ true
+  stops-3 : stops plusZero columns 2 shares source (Within plusZero (AtMost 1)) 1 ≡ true
   unfolding count ofBits ne
   stops-3 = rw next-13
 
 -- what stage 1 answers, and stage 0
-answer-13 : (seed : ℕ) → Normal binary64 2 (at shares) → answerAt columns 2 shares seed 1 ≡ oneLeft half
+answer-13 : (source : SplitMix64) → Normal binary64 2 (at shares) → answerAt columns 2 shares source 1 ≡ oneLeft half
 unfolding tabulate count ofBits ne maxChange changeTo maxAbsTo largerOf isNan lt sub mul add
-answer-13 seed normal = rw (stage-0 shares seed, next-13 seed normal)
+answer-13 source normal = rw (stage-0 shares source, next-13 source normal)
 
-answer-13-first : (seed : ℕ) → Normal binary64 2 (at shares) → answerAt columns 2 shares seed 0 ≡ atOnce 2
+answer-13-first : (source : SplitMix64) → Normal binary64 2 (at shares) → answerAt columns 2 shares source 0 ≡ atOnce 2
 unfolding tabulate count ofBits ne maxChange changeTo maxAbsTo largerOf isNan lt sub mul add
-answer-13-first seed normal = rw (stage-0 shares seed)
+answer-13-first source normal = rw (stage-0 shares source)
 
 ruled-1 : ruleFault (Within half Absent) ≡ 0
 unfolding ofBits le lt eq
@@ -239,26 +245,26 @@ sound-11 : valueFault matrix (one ∷ one ∷ []) ≡ 0
 unfolding valueFault allTo l1Of sumFrom ofBits add le lt eq
 sound-11 = refl
 
-module _ (seed : ℕ) (normal : Normal binary64 2 (at halves)) where
+module _ (source : SplitMix64) (normal : Normal binary64 2 (at halves)) where
   both-11 : nonzeros halves ≡ 2
   unfolding count ofBits ne
   both-11 = refl
 
-  next-11 : stageOf plusZero columns 2 halves seed 1 .w ≡ one ∷ plusZero ∷ []
+  next-11 : stageOf plusZero columns 2 halves source 1 .w ≡ one ∷ plusZero ∷ []
   unfolding heavier aboveOf ofBits ne lt
-  next-11 = first-left seed half half normal both-11 refl (largest-first half half refl refl)
+  next-11 = first-left source half half normal both-11 refl (largest-first half half refl refl)
 
-  goes-4 : stops plusZero columns 2 halves seed (Target 1) 0 ≡ false
+  goes-4 : stops plusZero columns 2 halves source (Target 1) 0 ≡ false
   unfolding count ofBits ne
-  goes-4 = rw (stage-0 halves seed)
+  goes-4 = rw (stage-0 halves source)
 
-  stops-4 : stops plusZero columns 2 halves seed (Target 1) 1 ≡ true
+  stops-4 : stops plusZero columns 2 halves source (Target 1) 1 ≡ true
   unfolding count ofBits ne
   stops-4 = rw next-11
 
-answer-11 : (seed : ℕ) → Normal binary64 2 (at halves) → answerAt columns 2 halves seed 1 ≡ oneLeft one
+answer-11 : (source : SplitMix64) → Normal binary64 2 (at halves) → answerAt columns 2 halves source 1 ≡ oneLeft one
 unfolding tabulate count ofBits ne maxChange changeTo maxAbsTo largerOf isNan lt sub mul add
-answer-11 seed normal = rw (stage-0 halves seed, next-11 seed normal)
+answer-11 source normal = rw (stage-0 halves source, next-11 source normal)
 
 -- ---- C5: weights -3 and 1
 
@@ -280,26 +286,26 @@ sound-31 : valueFault matrix (minusThree ∷ one ∷ []) ≡ 0
 unfolding valueFault allTo l1Of sumFrom ofBits add le lt eq
 sound-31 = refl
 
-module _ (seed : ℕ) (normal : Normal binary64 2 (at signed)) where
+module _ (source : SplitMix64) (normal : Normal binary64 2 (at signed)) where
   both-31 : nonzeros signed ≡ 2
   unfolding count ofBits ne
   both-31 = refl
 
-  next-31 : stageOf plusZero columns 2 signed seed 1 .w ≡ minusOne ∷ plusZero ∷ []
+  next-31 : stageOf plusZero columns 2 signed source 1 .w ≡ minusOne ∷ plusZero ∷ []
   unfolding heavier aboveOf ofBits ne lt
-  next-31 = first-left seed minusThreeQuarters quarter normal both-31 refl (largest-first minusThreeQuarters quarter refl refl)
+  next-31 = first-left source minusThreeQuarters quarter normal both-31 refl (largest-first minusThreeQuarters quarter refl refl)
 
-  goes-5 : stops plusZero columns 2 signed seed (Target 1) 0 ≡ false
+  goes-5 : stops plusZero columns 2 signed source (Target 1) 0 ≡ false
   unfolding count ofBits ne
-  goes-5 = rw (stage-0 signed seed)
+  goes-5 = rw (stage-0 signed source)
 
-  stops-5 : stops plusZero columns 2 signed seed (Target 1) 1 ≡ true
+  stops-5 : stops plusZero columns 2 signed source (Target 1) 1 ≡ true
   unfolding count ofBits ne
   stops-5 = rw next-31
 
-answer-31 : (seed : ℕ) → Normal binary64 2 (at signed) → answerAt columns 2 signed seed 1 ≡ oneLeft half
+answer-31 : (source : SplitMix64) → Normal binary64 2 (at signed) → answerAt columns 2 signed source 1 ≡ oneLeft half
 unfolding tabulate count ofBits ne maxChange changeTo maxAbsTo largerOf isNan lt sub mul add
-answer-31 seed normal = rw (stage-0 signed seed, next-31 seed normal)
+answer-31 source normal = rw (stage-0 signed source, next-31 source normal)
 
 -- ---- C6: weights 4 and the smallest subnormal
 
@@ -318,30 +324,30 @@ sound-tiny : valueFault matrix (four ∷ smallest ∷ []) ≡ 0
 unfolding valueFault allTo l1Of sumFrom ofBits add le lt eq
 sound-tiny = refl
 
-lonely-one : (seed : ℕ) → nonzeros (stageOf plusZero columns 2 lonely seed 0 .w) ≡ 1
+lonely-one : (source : SplitMix64) → nonzeros (stageOf plusZero columns 2 lonely source 0 .w) ≡ 1
 unfolding stageOf count ofBits ne
-lonely-one seed = refl
+lonely-one source = refl
 
-answer-tiny : (seed : ℕ) → Normal binary64 2 (at lonely) → answerAt columns 2 lonely seed 0 ≡ atOnce 1
+answer-tiny : (source : SplitMix64) → Normal binary64 2 (at lonely) → answerAt columns 2 lonely source 0 ≡ atOnce 1
 unfolding tabulate count ofBits ne maxChange changeTo maxAbsTo largerOf isNan lt sub mul add
-answer-tiny seed normal = rw (stage-0 lonely seed)
+answer-tiny source normal = rw (stage-0 lonely source)
 
 case-6 : holds (thins (four ∷ smallest ∷ []) any (atOnce 1) lonely)
-case-6 rule seed output numbers indices r output' numbers' indices' c =
+case-6 rule seed edition output numbers indices r output' numbers' indices' c =
     called-so four smallest lonely start-tiny doubles-tiny sound-tiny rule 0 lonely c
     (λ s n. (
       at-0 (first-holds (rests plusZero columns 2 lonely s rule 0) _
           (few-rests plusZero columns 2 lonely s rule 0 c (omega (arith, lonely-one s)))),
       stage-0 lonely s,
     ))
-    answer-tiny rule seed output numbers indices r output' numbers' indices' refl
+    answer-tiny rule seed edition output numbers indices r output' numbers' indices' refl
 
 -- ---- C7 and C14: refusals
 
 -- a job with a fault is refused by it, and its output stays
-refused : {rule : Rule} {seed : ℕ} {u : List Float} {m n : ℕ} {w output numbers : List Float} {indices : List ℕ} {r : Answer}
+refused : {rule : Rule} {source : SplitMix64} {u : List Float} {m n : ℕ} {w output numbers : List Float} {indices : List ℕ} {r : Answer}
     {output' numbers' : List Float} {indices' : List ℕ} (k : ℕ)
-    → Thinned rule seed u m n w output numbers indices r output' numbers' indices' → jobFault rule u m n w (length output)
+    → Thinned rule source u m n w output numbers indices r output' numbers' indices' → jobFault rule (source .edition) u m n w (length output)
     (length numbers) (length indices) ≡ suc k
     → (r ≡ refusal (suc k)) × (output' ≡ output)
 refused {r = r} k job f =
@@ -353,16 +359,18 @@ unfolding valueFault allTo l1Of sumFrom ofBits add le lt eq
 fault-7 = refl
 
 case-7 : holds (refuses (plusZero ∷ plusZero ∷ []) any 9)
-case-7 rule seed output numbers indices r output' numbers' indices' c room job = refused 8 job
-    (fault-is rule plusZero plusZero output numbers indices c room ∙ fault-7)
+case-7 rule seed edition output numbers indices r output' numbers' indices' c known room job =
+    refused 8 job
+    (fault-is rule edition plusZero plusZero output numbers indices c known room ∙ fault-7)
 
-fault-14 : (u : List Float) (m n : ℕ) (w : List Float) (output numbers indices : ℕ) → jobFault (Within nan (AtMost 0)) u m n w output numbers indices ≡ 1
+fault-14 : (edition : ℕ) (u : List Float) (m n : ℕ) (w : List Float) (output numbers indices : ℕ)
+    → jobFault (Within nan (AtMost 0)) edition u m n w output numbers indices ≡ 1
 unfolding jobFault ofBits le lt eq
-fault-14 u m n w output numbers indices = refl
+fault-14 edition u m n w output numbers indices = refl
 
 case-14 : holds (refusesRule (Within nan (AtMost 0)) 1)
-case-14 seed u m n weights output numbers indices r output' numbers' indices' job = refused 0 job
-    (fault-14 u m n weights (length output) (length numbers) (length indices))
+case-14 seed edition u m n weights output numbers indices r output' numbers' indices' job = refused 0 job
+    (fault-14 edition u m n weights (length output) (length numbers) (length indices))
 
 -- ---- C10 and C11: draws
 
@@ -371,12 +379,12 @@ unfolding ofBits
 case-10 = state-becomes-zero
 
 case-11 : holds (uniform (2 ^ 53 - 1) one)
-unfolding ofBits
-case-11 word e = ap uniformAt e ∙ largest .0
+unfolding ofBits uniformOf
+case-11 word e = ap (uniformAt 53) e ∙ largest .0
 
 case-11-below : holds (uniform (2 ^ 53 - 2) (ofBits binary64 0x3FEF_FFFF_FFFF_FFFE))
-unfolding ofBits
-case-11-below word e = ap uniformAt e ∙ largest .1
+unfolding ofBits uniformOf
+case-11-below word e = ap (uniformAt 53) e ∙ largest .1
 
 -- ---- C1 to C3, as calls and as sheets
 
@@ -398,17 +406,17 @@ case-3 =
 -- the weights 1 and 3 by a rule that is not refused
 module _ (rule : Rule) (answer : Answer) (v : List Float) (ruled : ruleFault rule ≡ 0) (good : answer .number ≡ 0)
     (claim : called (one ∷ three ∷ []) (by rule) (λ output r output'. (r ≡ answer) × (output' ≡ v))) where
-  none-13 : jobFault rule matrix 2 2 (one ∷ three ∷ []) 2 100 100 ≡ 0
+  none-13 : jobFault rule 1 matrix 2 2 (one ∷ three ∷ []) 2 100 100 ≡ 0
   unfolding tabulate
-  none-13 = fault-is rule one three (repeated plusZero 2) (repeated plusZero 100) (repeated 0 100) ruled room ∙ sound-13
+  none-13 = fault-is rule 1 one three (repeated plusZero 2) (repeated plusZero 100) (repeated 0 100) ruled refl room ∙ sound-13
 
   sheet-none-13 : sheetFault rule matrix 2 2 (one ∷ three ∷ []) ≡ 0
   unfolding sheetFault
   sheet-none-13 = rw (ruled, sound-13)
 
-  text-13 : (seed : ℕ) → jobText rule seed matrix 2 2 (one ∷ three ∷ []) ≡ answerText answer v
+  text-13 : (seed : ℕ) → jobText rule (seeded seed 1) matrix 2 2 (one ∷ three ∷ []) ≡ answerText answer v
   text-13 seed =
-      text-of (one ∷ three ∷ []) rule seed answer v sheet-none-13
+      text-of (one ∷ three ∷ []) rule (seeded seed 1) answer v sheet-none-13
       (answered-so (one ∷ three ∷ []) rule answer v claim none-13 good seed)
       (returned-so (one ∷ three ∷ []) rule answer v claim none-13 good seed)
 

@@ -9,12 +9,13 @@ use lib.ListN.{length}
 use lib.Ieee.{Float, nan, binary64, ofBits}
 use Rattle.seq.specs.Lists.{repeated}
 use Rattle.seq.specs.Sums.{plusZero}
-use Rattle.draw.specs.SplitMix.{outputOf, afterOf}
-use Rattle.draw.specs.Uniform.{uniformOf}
+use Rattle.draw.specs.SplitMix.{seeded, outputOf, afterOf}
+use Rattle.draw.specs.Uniform.{uniformOf, uniformIn}
 use Rattle.limits.specs.Limits.{numbersNeeded, indicesNeeded}
 use Rattle.margins.specs.Answers.{changeAnswer}
 use Rattle.sparsification.specs.Answers.{refusal, Thinned}
 use Rattle.rules.specs.Rules.{ruleFault}
+use Rattle.faults.specs.Faults.{editionFault}
 use Rattle.sheet.specs.Answer.{sheetAnswer}
 use Rattle.knobthistle.specs.SheetBytes.{sheetWith, halfRule, underHalfRule, cappedRule, oneLeftText, bothLeftText}
 use Rattle.sparsification.specs.declared.Answer.{Answer}
@@ -30,17 +31,17 @@ pub data Rules : Type 0 where
   any : Rules
 
 pub data Case : Type 0 where
-  -- these weights by these rules, whatever the seed: the answer, and what is written
+  -- these weights by these rules, whatever the seed and the edition: the answer, and what is written
   thins : List Float → Rules → Answer → List Float → Case
   -- a sheet with this rule in it, whatever the seed that it says: the text of its answer
   onSheet : List ℕ → List ℕ → Case
-  -- these weights by these rules, whatever the seed: refused by this number, and nothing is written
+  -- these weights by these rules, whatever the seed and the edition: refused by this number, and nothing is written
   refuses : List Float → Rules → ℕ → Case
   -- a rule that is refused by this number whatever it is to thin
   refusesRule : Rule → ℕ → Case
-  -- a state of the generator: the state after it, the output, and its uniform
+  -- a state of the generator: the state after it, the output, and its uniform in edition 1
   draws : ℕ → ℕ → ℕ → Float → Case
-  -- the uniform of an output whose upper 53 bits are these
+  -- the uniform in edition 1 of an output whose upper 53 bits are these
   uniform : ℕ → Float → Case
   -- from the first weights to the second, a margin changes by this at most
   changes : List Float → List Float → Float → Case
@@ -154,13 +155,14 @@ pub record Room (m n : ℕ) (output numbers : List Float) (indices : List ℕ) :
   pub floats : numbersNeeded m n ≤ length numbers
   pub words : indicesNeeded m n ≤ length indices
 
--- whatever the seed and the scratch, a call on the matrix has an answer and an output of which P holds; P is told the output as it was lent
+-- whatever the seed, the edition and the scratch, a call on the matrix has an answer and an output of which P holds; P is told the
+-- output as it was lent
 abbrev pub called : List Float → Rules → (List Float → Answer → List Float → Type 0) → Type 0
 called weights rules P =
-    (rule : Rule) (seed : ℕ) (output numbers : List Float) (indices : List ℕ) (r : Answer)
+    (rule : Rule) (seed edition : ℕ) (output numbers : List Float) (indices : List ℕ) (r : Answer)
     (output' numbers' : List Float) (indices' : List ℕ)
-    → covers rules rule → Room 2 2 output numbers indices
-    → Thinned rule seed matrix 2 2 weights output numbers indices r output' numbers' indices'
+    → covers rules rule → editionFault edition ≡ 0 → Room 2 2 output numbers indices
+    → Thinned rule (seeded seed edition) matrix 2 2 weights output numbers indices r output' numbers' indices'
     → P output r output'
 
 abbrev pub holds : Case → Type 0
@@ -168,12 +170,13 @@ holds (thins weights rules answer written) = called weights rules (λ output r o
 holds (onSheet rule answer) = (seed : ℕ) → seed < 2 ^ 64 → sheetAnswer (sheetWith rule seed) ≡ answer
 holds (refuses weights rules number) = called weights rules (λ output r output'. (r ≡ refusal number) × (output' ≡ output))
 holds (refusesRule rule number) =
-    (seed : ℕ) (u : List Float) (m n : ℕ) (weights output numbers : List Float) (indices : List ℕ)
+    (seed edition : ℕ) (u : List Float) (m n : ℕ) (weights output numbers : List Float) (indices : List ℕ)
     (r : Answer) (output' numbers' : List Float) (indices' : List ℕ)
-    → Thinned rule seed u m n weights output numbers indices r output' numbers' indices'
+    → Thinned rule (seeded seed edition) u m n weights output numbers indices r output' numbers' indices'
     → (r ≡ refusal number) × (output' ≡ output)
-holds (draws state after output value) = (afterOf state ≡ after) × (outputOf state ≡ output) × (uniformOf (outputOf state) ≡ value)
-holds (uniform n value) = (word : ℕ) → word / 2 ^ 11 ≡ n → uniformOf word ≡ value
+holds (draws state after output value) =
+    let rng = seeded state 1 in (afterOf rng .state ≡ after) × (outputOf rng ≡ output) × (uniformIn rng ≡ value)
+holds (uniform n value) = (word : ℕ) → word / 2 ^ 11 ≡ n → uniformOf 1 word ≡ value
 holds (changes before after change) = changeAnswer matrix 2 2 before after ≡ record { number = 0; change = change }
 
 -- each row holds

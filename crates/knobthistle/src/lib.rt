@@ -13,8 +13,8 @@ use sparsification::sparsify;
 use sparsification::sparsify_within;
 ghost use mathlib.Core.Path.{_≡_};
 ghost use Rattle.root.specs.Root.{sqrtOf};
-ghost use Rattle.draw.specs.SplitMix.{outputOf, afterOf};
-ghost use Rattle.draw.specs.Uniform.{uniformOf};
+ghost use Rattle.draw.specs.SplitMix.{seeded, afterOf};
+ghost use Rattle.draw.specs.Uniform.{uniformIn};
 ghost use Rattle.draw.specs.Gaussian.{lnOfDraw, cosOfDraw, gaussianOf, afterGaussian};
 ghost use Rattle.discrepancy.specs.Discrepancy.{DiscrepancyColored};
 ghost use Rattle.knobthistle.specs.Caps.{capOf};
@@ -24,24 +24,60 @@ ghost use Rattle.margins.specs.Answers.{changeAnswer, turnedAnswer};
 ghost use Rattle.sheet.specs.Answer.{Answered};
 ghost use Rattle.moving.specs.Answers.{Listed};
 
-// The next uniform draw; the state moves on.
-#[no_mangle]
-pub extern "C" fn knob_uniform(state: &mut u64) -> f64
-    ensures { λ r. ⌜ (r ≡ uniformOf (outputOf (now (state .entry)))) × (now (state .exit) ≡ afterOf (now (state .entry))) ⌝ }
+// The next uniform draw by an edition; the state moves on.
+fn next_uniform(state: &mut u64, edition: u32) -> f64
+    ensures { λ r. ⌜ (r ≡ uniformIn (seeded (now (state .entry)) edition))
+        × (now (state .exit) ≡ afterOf (seeded (now (state .entry)) edition) .state) ⌝ }
 {
-    let u = SplitMix64::new(*state).uniform();
+    let u = SplitMix64::new(*state, edition).uniform();
     *state = u.rng.state;
     u.value
 }
 
-// The next Gaussian draw; the state moves on.
+// The next uniform draw of edition 1.
 #[no_mangle]
-pub extern "C" fn knob_gaussian(state: &mut u64) -> f64
-    ensures { λ r. ⌜ (r ≡ gaussianOf (now (state .entry))) × (now (state .exit) ≡ afterGaussian (now (state .entry))) ⌝ }
+pub extern "C" fn knob_uniform(state: &mut u64) -> f64
+    ensures { λ r. ⌜ (r ≡ uniformIn (seeded (now (state .entry)) 1))
+        × (now (state .exit) ≡ afterOf (seeded (now (state .entry)) 1) .state) ⌝ }
 {
-    let d = SplitMix64::new(*state).gaussian();
+    next_uniform(state, 1)
+}
+
+// The next uniform draw of edition 2.
+#[no_mangle]
+pub extern "C" fn knob_uniform_2(state: &mut u64) -> f64
+    ensures { λ r. ⌜ (r ≡ uniformIn (seeded (now (state .entry)) 2))
+        × (now (state .exit) ≡ afterOf (seeded (now (state .entry)) 2) .state) ⌝ }
+{
+    next_uniform(state, 2)
+}
+
+// The next Gaussian draw by an edition; the state moves on.
+fn next_gaussian(state: &mut u64, edition: u32) -> f64
+    ensures { λ r. ⌜ (r ≡ gaussianOf (seeded (now (state .entry)) edition))
+        × (now (state .exit) ≡ afterGaussian (seeded (now (state .entry)) edition) .state) ⌝ }
+{
+    let d = SplitMix64::new(*state, edition).gaussian();
     *state = d.rng.state;
     d.value
+}
+
+// The next Gaussian draw of edition 1.
+#[no_mangle]
+pub extern "C" fn knob_gaussian(state: &mut u64) -> f64
+    ensures { λ r. ⌜ (r ≡ gaussianOf (seeded (now (state .entry)) 1))
+        × (now (state .exit) ≡ afterGaussian (seeded (now (state .entry)) 1) .state) ⌝ }
+{
+    next_gaussian(state, 1)
+}
+
+// The next Gaussian draw of edition 2.
+#[no_mangle]
+pub extern "C" fn knob_gaussian_2(state: &mut u64) -> f64
+    ensures { λ r. ⌜ (r ≡ gaussianOf (seeded (now (state .entry)) 2))
+        × (now (state .exit) ≡ afterGaussian (seeded (now (state .entry)) 2) .state) ⌝ }
+{
+    next_gaussian(state, 2)
 }
 
 // IEEE 754's square root.
@@ -52,20 +88,36 @@ pub extern "C" fn knob_sqrt(x: f64) -> f64
     root::sqrt(x)
 }
 
-// The logarithm of the uniform of this output of the generator.
+// The logarithm of the uniform of this output of the generator, by edition 1.
 #[no_mangle]
 pub extern "C" fn knob_log_draw(word: u64) -> f64
-    ensures { λ r. ⌜ r ≡ lnOfDraw word ⌝ }
+    ensures { λ r. ⌜ r ≡ lnOfDraw 1 word ⌝ }
 {
-    draw::ln_of(word)
+    draw::ln_of(1, word)
 }
 
-// The cosine of TAU times the uniform of this output of the generator.
+// The same by edition 2.
+#[no_mangle]
+pub extern "C" fn knob_log_draw_2(word: u64) -> f64
+    ensures { λ r. ⌜ r ≡ lnOfDraw 2 word ⌝ }
+{
+    draw::ln_of(2, word)
+}
+
+// The cosine of TAU times the uniform of this output of the generator, by edition 1.
 #[no_mangle]
 pub extern "C" fn knob_cos_draw(word: u64) -> f64
-    ensures { λ r. ⌜ r ≡ cosOfDraw word ⌝ }
+    ensures { λ r. ⌜ r ≡ cosOfDraw 1 word ⌝ }
 {
-    draw::cos_of(word)
+    draw::cos_of(1, word)
+}
+
+// The same by edition 2.
+#[no_mangle]
+pub extern "C" fn knob_cos_draw_2(word: u64) -> f64
+    ensures { λ r. ⌜ r ≡ cosOfDraw 2 word ⌝ }
+{
+    draw::cos_of(2, word)
 }
 
 // The largest change of a margin, written to `change`; the number.
@@ -132,12 +184,13 @@ pub extern "C" fn knob_sparsify(
     n: usize,
     weights: &[f64],
     seed: u64,
+    edition: u32,
     target: usize,
     output: &mut [f64],
     numbers: &mut [f64],
     indices: &mut [u32],
 ) -> Answer
-    ensures { λ r. ⌜ Thinned (Target target) seed (now (matrix .entry)) m n (now (weights .entry)) (now (output .entry))
+    ensures { λ r. ⌜ Thinned (Target target) (seeded seed edition) (now (matrix .entry)) m n (now (weights .entry)) (now (output .entry))
         (now (numbers .entry)) (now (indices .entry)) r (now (output .exit)) (now (numbers .exit)) (now (indices .exit)) ⌝ }
 {
     sparsify(
@@ -146,6 +199,7 @@ pub extern "C" fn knob_sparsify(
         n,
         weights,
         seed,
+        edition,
         target,
         output,
         numbers,
@@ -172,6 +226,7 @@ pub extern "C" fn knob_sparsify_within(
     n: usize,
     weights: &[f64],
     seed: u64,
+    edition: u32,
     allowance: f64,
     capped: u32,
     cap: usize,
@@ -179,7 +234,7 @@ pub extern "C" fn knob_sparsify_within(
     numbers: &mut [f64],
     indices: &mut [u32],
 ) -> Answer
-    ensures { λ r. ⌜ Thinned (Within allowance (capOf capped cap)) seed (now (matrix .entry)) m n (now (weights .entry))
+    ensures { λ r. ⌜ Thinned (Within allowance (capOf capped cap)) (seeded seed edition) (now (matrix .entry)) m n (now (weights .entry))
         (now (output .entry)) (now (numbers .entry)) (now (indices .entry)) r (now (output .exit)) (now (numbers .exit))
         (now (indices .exit)) ⌝ }
 {
@@ -189,6 +244,7 @@ pub extern "C" fn knob_sparsify_within(
         n,
         weights,
         seed,
+        edition,
         allowance,
         cap_of(capped, cap),
         output,

@@ -3,42 +3,42 @@
 // data, needs no walk.
 use draw::SplitMix64;
 ghost use mathlib.Core.Path.{_≡_};
-ghost use Rattle.draw.specs.SplitMix.{outputOf, afterOf};
-ghost use Rattle.draw.specs.Uniform.{uniformOf};
+ghost use Rattle.draw.specs.SplitMix.{seeded, outputOf, afterOf};
+ghost use Rattle.draw.specs.Uniform.{uniformIn};
 ghost use Rattle.draw.specs.Gaussian.{gaussianOf, afterGaussian};
 
-// The generator that is lent: 64 bits of state.
+// The generator that is lent, of either edition.
 pub struct Generator {
-    pub state: u64,
+    pub rng: SplitMix64,
 }
 
 impl Generator {
     // The next output.
     pub fn next_u64(&mut self) -> u64
-        ensures { λ r. ⌜ (r ≡ outputOf (now (self .entry) .state)) × (now (self .exit) .state ≡ afterOf (now (self .entry) .state)) ⌝ }
+        ensures { λ r. ⌜ (r ≡ outputOf (now (self .entry) .rng)) × (now (self .exit) .rng ≡ afterOf (now (self .entry) .rng)) ⌝ }
     {
-        let word = SplitMix64 { state: self.state }.next_u64();
-        self.state = word.rng.state;
+        let word = self.rng.next_u64();
+        self.rng = word.rng;
         word.value
     }
 
-    // The next uniform draw, from 2^-54 up and at most 1.
+    // The next uniform draw.
     pub fn uniform(&mut self) -> f64
-        ensures { λ r. ⌜ (r ≡ uniformOf (outputOf (now (self .entry) .state)))
-            × (now (self .exit) .state ≡ afterOf (now (self .entry) .state)) ⌝ }
+        ensures { λ r. ⌜ (r ≡ uniformIn (now (self .entry) .rng))
+            × (now (self .exit) .rng ≡ afterOf (now (self .entry) .rng)) ⌝ }
     {
-        let draw = SplitMix64 { state: self.state }.uniform();
-        self.state = draw.rng.state;
+        let draw = self.rng.uniform();
+        self.rng = draw.rng;
         draw.value
     }
 
     // The next Gaussian draw.
     pub fn gaussian(&mut self) -> f64
-        ensures { λ r. ⌜ (r ≡ gaussianOf (now (self .entry) .state))
-            × (now (self .exit) .state ≡ afterGaussian (now (self .entry) .state)) ⌝ }
+        ensures { λ r. ⌜ (r ≡ gaussianOf (now (self .entry) .rng))
+            × (now (self .exit) .rng ≡ afterGaussian (now (self .entry) .rng)) ⌝ }
     {
-        let draw = SplitMix64 { state: self.state }.gaussian();
-        self.state = draw.rng.state;
+        let draw = self.rng.gaussian();
+        self.rng = draw.rng;
         draw.value
     }
 }
@@ -49,11 +49,16 @@ pub struct Pair {
     pub second: f64,
 }
 
-// The first two Gaussian draws of a seed.
-pub fn two_gaussians(seed: u64) -> Pair
-    ensures { λ r. ⌜ (r .first ≡ gaussianOf seed) × (r .second ≡ gaussianOf (afterGaussian seed)) ⌝ }
+// The first two Gaussian draws of a seed, by the edition.
+pub fn two_gaussians(seed: u64, edition: u32) -> Pair
+    ensures { λ r. ⌜ (r .first ≡ gaussianOf (seeded seed edition)) × (r .second ≡ gaussianOf (afterGaussian (seeded seed edition))) ⌝ }
 {
-    let mut generator = Generator { state: seed };
+    let mut generator = Generator {
+        rng: SplitMix64 {
+            state: seed,
+            edition,
+        },
+    };
     let first = generator.gaussian();
     let second = generator.gaussian();
     Pair { first, second }

@@ -31,6 +31,7 @@ use Rattle.places.specs.Places.{chosen, putBack, roundedAt, wordsAt}
 use Rattle.phasing.specs.Phase.{Between, roundedOff, phased}
 use Rattle.phasing.specs.Phasing.{between, insideOf, PhasedAt}
 use Rattle.walk.proofs.SameEntries.{begun-same, phase-same}
+use Rattle.draw.specs.declared.SplitMix64.{SplitMix64}
 
 -- ---- what is chosen
 
@@ -68,7 +69,8 @@ roomy-part k l num blocked x some-x free some-free r h ex ef =
 
 -- ---- what the phase leaves
 
-module _ (u : List Float) (n : ℕ) (cols : List ℕ) (scale : List Float) (places : List ℕ) (rows rng : ℕ) (num x : List Float) (free : List ℕ) where
+module _ (u : List Float) (n : ℕ) (cols : List ℕ) (scale : List Float) (places : List ℕ) (rows : ℕ) (rng : SplitMix64) (num x : List Float)
+    (free : List ℕ) where
   abbrev matrix : ℕ → ℕ → Float
   matrix = entryOf u n cols scale
 
@@ -116,7 +118,7 @@ places-below free places k l e p =
 pub places-few : (free places : List ℕ) (k l : ℕ) → length free ≡ k → Pushed (keep (isSet free) (length free)) l places → l ≤ k
 places-few free places k l e p = omega (arith, e, p .long, keep-short (isSet free) (length free))
 
-module _ (a : ℕ → ℕ → Float) (k rows : ℕ) (rng : ℕ) (num x : List Float) (free places : List ℕ) (r : Phased) (num' x' : List Float) (free' : List ℕ)
+module _ (a : ℕ → ℕ → Float) (k rows : ℕ) (rng : SplitMix64) (num x : List Float) (free places : List ℕ) (r : Phased) (num' x' : List Float) (free' : List ℕ)
     (is : places ≡ keep (isSet free) k) (at : PhasedAt a rows places rng num x free r num' x' free') (d : ℕ) where
   -- what stands once the phase's coordinates are back at some places
   abbrev after : List ℕ → Between
@@ -128,7 +130,7 @@ module _ (a : ℕ → ℕ → Float) (k rows : ℕ) (rng : ℕ) (num x : List Fl
     directions = d + insideOf a rows ps rng num x .directions;
   }
 
-  stands : between rows num' x' free' (r .at .rng .state) (d + r .directions) ≡ after places
+  stands : between rows num' x' free' (r .at .rng) (d + r .directions) ≡ after places
   stands = rw (at .moves, at .marks, at .ax, at .draws, at .counts)
 
   picks : (t : Bool) → eqb (r .at .frozen) 0 ≡ t
@@ -140,14 +142,14 @@ module _ (a : ℕ → ℕ → Float) (k rows : ℕ) (rng : ℕ) (num x : List Fl
 
   -- a phase that froze some
   pub phase-goes : r .at .frozen ≢ 0
-      → between rows num' x' free' (r .at .rng .state) (d + r .directions) ≡ phased plusZero a k rows (between rows num x free rng d)
+      → between rows num' x' free' (r .at .rng) (d + r .directions) ≡ phased plusZero a k rows (between rows num x free rng d)
   phase-goes f = stands ∙ sym (picks false (ne-eqb (r .at .frozen) 0 f))
 
   -- a phase that froze none: what is free is rounded
   pub phase-rounds : (x'' : List Float) (free'' : List ℕ) → r .at .frozen ≡ 0
       → x'' ≡ tabulate (roundedAt x' free') (length x') → free'' ≡ repeated 0 (length free')
-      → between rows num' x'' free'' (r .at .rng .state) (d + r .directions) ≡ phased plusZero a k rows (between rows num x free rng d)
+      → between rows num' x'' free'' (r .at .rng) (d + r .directions) ≡ phased plusZero a k rows (between rows num x free rng d)
   phase-rounds x'' free'' f ex ef =
-      let s : between rows num' x'' free'' (r .at .rng .state) (d + r .directions)
-      ≡ roundedOff (between rows num' x' free' (r .at .rng .state) (d + r .directions)) = rw (ex, ef) in
+      let s : between rows num' x'' free'' (r .at .rng) (d + r .directions)
+      ≡ roundedOff (between rows num' x' free' (r .at .rng) (d + r .directions)) = rw (ex, ef) in
       s ∙ ap roundedOff stands ∙ sym (picks true (eq-eqb (r .at .frozen) 0 f))

@@ -12,13 +12,14 @@ use Rattle.seq.specs.Marks.{isSet}
 use Rattle.begin.specs.Begin.{begun}
 use Rattle.walk.specs.Walk.{Course, courseOf}
 use Rattle.places.specs.Places.{chosen, putBack, roundedAt}
+use Rattle.draw.specs.declared.SplitMix64.{SplitMix64}
 
 -- what stands between two phases: all k coordinates, which of them are free, A x, the generator, and how many directions were drawn
 pub record Between : Type 0 where
   pub x : List Float
   pub free : List ℕ
   pub ax : List Float
-  pub rng : ℕ
+  pub rng : SplitMix64
   pub directions : ℕ
 
 -- a phase that froze nothing is the last: what is free is rounded

@@ -44,7 +44,7 @@ fn phase_on(
         (length (now subx) ≡ length (now places))
         × (length (now subfree) ≡ length (now places)) × (length (now g) ≡ length (now places)) ⌝ }
     ensures { λ r. ⌜ PhasedAt (entryOf (now (u .entry)) n (now (cols .entry)) (now (scale .entry)))
-        (length (now (blocked .entry))) (now (places .entry)) (rng .state) (now (num .entry)) (now (x .entry))
+        (length (now (blocked .entry))) (now (places .entry)) rng (now (num .entry)) (now (x .entry))
         (now (free .entry)) r (now (num .exit)) (now (x .exit)) (now (free .exit)) ⌝ }
 {
     choose_words(&mut subcols[..], cols, places);
@@ -91,10 +91,10 @@ pub fn next_phase(
         (length (now cols) ≤ length (now subscale))
         × (length (now cols) ≤ length (now subx)) × (length (now cols) ≤ length (now subfree)) × (length (now cols) ≤ length (now g)) ⌝ }
     ensures { λ r. ⌜ ((d : ℕ) → between (length (now (blocked .entry))) (now (num .exit)) (now (x .exit)) (now (free .exit))
-        (r .at .rng .state) (d + r .directions) ≡ phased plusZero
+        (r .at .rng) (d + r .directions) ≡ phased plusZero
         (entryOf (now (u .entry)) n (now (cols .entry)) (now (scale .entry))) (length (now (cols .entry)))
         (length (now (blocked .entry))) (between (length (now (blocked .entry))) (now (num .entry)) (now (x .entry))
-        (now (free .entry)) (rng .state) d)) ⌝ }
+        (now (free .entry)) rng d)) ⌝ }
 {
     let l = free_places(&mut places[..], &free[..]);
     let p = phase_on(

@@ -35,6 +35,7 @@ use Rattle.halving.proofs.Rest.{length-rest, rest-on}
 use Rattle.halving.proofs.Fates.{length-once}
 use Rattle.discrepancy.specs.Discrepancy.{mostEntry, coloringFault}
 use Rattle.bounded.proofs.Within.{Within}
+use Rattle.draw.specs.SplitMix.{seeded}
 use Rattle.progress.specs.Original.{Generator, before, columnsAt, entriesAt, GetsSomewhere}
 use Rattle.progress.specs.Clear.{Clear, Sizable}
 use Rattle.progress.specs.Pass.{halvedFirst, scaledIn, leftIn, PassClear, PassGetsSomewhere}
@@ -196,9 +197,10 @@ call-bounded u m n doubles a = record {
       within-of u 32 mostEntry most-is tt (lit≤ tt) doubles (a .most) (p * n + i) (subst (λ (k : ℕ). p * n + i < k) (sym (a .long)) (place-inside p i m n h g));
 }
 
+-- by the generator of edition 1, with which a direct call starts
 pub call-gets-somewhere : (u : List Float) (m n output numbers indices seed : ℕ) → ((i : ℕ) → T (fits binary64 (at u i)))
     → coloringFault u m n output numbers indices ≡ 0
-    → Clear (columnsOf u n) m n seed → GetsSomewhere (columnsOf u n) m n seed
+    → Clear (columnsOf u n) m n (seeded seed 1) → GetsSomewhere (columnsOf u n) m n (seeded seed 1)
 call-gets-somewhere u m n output numbers indices seed doubles e c =
     let a = accepted u m n output numbers indices e in
-    colouring-gets-somewhere (columnsOf u n) m n seed (a .small) (call-bounded u m n doubles a) c
+    colouring-gets-somewhere (columnsOf u n) m n (seeded seed 1) (a .small) (call-bounded u m n doubles a) c

@@ -21,10 +21,11 @@ use Rattle.walk.specs.Walk.{Stepped, stepOf, Course, further, ended, phaseOf}
 use Rattle.places.specs.Places.{chosen}
 use Rattle.phasing.specs.Phase.{Between, phased}
 use Rattle.coloring.specs.Coloring.{settled}
+use Rattle.draw.specs.declared.SplitMix64.{SplitMix64}
 
 -- what the walk draws from
 abbrev pub Generator : Type 0
-Generator = ℕ
+Generator = SplitMix64
 
 -- how far the step along g goes from w
 abbrev pub reachFrom : Float → (ℕ → ℕ → Float) → ℕ → ℕ → Walk → List Float → Float

@@ -15,10 +15,11 @@ use Rattle.limits.specs.Limits.{tooLarge, scratchShort, numbersNeeded, indicesN
 use Rattle.rules.specs.declared.Rule.{Rule}
 use Rattle.sparsification.specs.declared.Answer.{Answer}
 use Rattle.rules.specs.Rules.{ruleFault}
-use Rattle.faults.specs.Faults.{sizeFault, valueFault, jobFault}
+use Rattle.faults.specs.Faults.{editionFault, sizeFault, valueFault, jobFault}
 use Rattle.sparsification.specs.Answers.{refusal, answerOf, returned, Thinned}
 use Rattle.sheet.specs.Answer.{answerText, sheetFault, jobAnswer, jobText}
 use Rattle.sheet.specs.Steps.{Wrote}
+use Rattle.draw.specs.declared.SplitMix64.{SplitMix64}
 
 -- a sheet's job is within the limits
 pub not-large : (m n : ℕ) → m ≤ 32 → n ≤ 64 → tooLarge m n ≡ false
@@ -37,11 +38,12 @@ unfolding sizeFault
 size-fault m n matrix weights output h g a b d =
     rw (not-large m n h g, eq-eqb matrix (m * n) a, eq-eqb weights m b, eq-eqb output m d, scratch-enough m n h g)
 
-pub sheet-fault : (rule : Rule) (u : List Float) (m n : ℕ) (w : List Float) (output : ℕ) → m ≤ 32 → n ≤ 64 → length u ≡ m * n → length w ≡ m → output ≡ m
-    → jobFault rule u m n w output 4136 776 ≡ sheetFault rule u m n w
+pub sheet-fault : (rule : Rule) (edition : ℕ) (u : List Float) (m n : ℕ) (w : List Float) (output : ℕ) → editionFault edition ≡ 0
+    → m ≤ 32 → n ≤ 64 → length u ≡ m * n → length w ≡ m → output ≡ m → jobFault rule edition u m n w output 4136 776 ≡ sheetFault rule u m n w
 unfolding jobFault sheetFault
-sheet-fault rule u m n w output h g a b d =
-    ap (λ (s : ℕ). orElse (ruleFault rule) (orElse s (valueFault u w))) (size-fault m n (length u) (length w) output h g a b d)
+sheet-fault rule edition u m n w output known h g a b d =
+    ap (λ (e : ℕ). orElse (ruleFault rule) (orElse e (orElse (sizeFault m n (length u) (length w) output 4136 776) (valueFault u w)))) known
+    ∙ ap (λ (s : ℕ). orElse (ruleFault rule) (orElse s (valueFault u w))) (size-fault m n (length u) (length w) output h g a b d)
 
 -- the text of an answer reads the weights only where they were returned
 text-same : (s : Answer) (w x y : List Float) → w ≡ pick (eqb (s .number) 0) x y → answerText s w ≡ answerText s x
@@ -52,18 +54,19 @@ text-same s w x y e = go (eqb (s .number) 0) refl
     go true h = ap (answerText s) (e ∙ ap (λ (b : Bool). pick b x y) h)
     go false h = rw (h)
 
-pub job-wrote : {rule : Rule} {seed : ℕ} {u : List Float} {m n : ℕ} {w output numbers : List Float} {indices : List ℕ}
+pub job-wrote : {rule : Rule} {source : SplitMix64} {u : List Float} {m n : ℕ} {w output numbers : List Float} {indices : List ℕ}
     {s : Answer} {output' numbers' : List Float} {indices' : List ℕ}
-    (out : List ℕ) (r : ℕ) (out' : List ℕ) → m ≤ 32 → n ≤ 64 → length u ≡ m * n → length w ≡ m → length output ≡ m → length
+    (out : List ℕ) (r : ℕ) (out' : List ℕ) → editionFault (source .edition) ≡ 0 → m ≤ 32 → n ≤ 64 → length u ≡ m * n → length w ≡ m → length output ≡ m → length
     numbers ≡ 4136 → length indices ≡ 776
-    → Thinned rule seed u m n w output numbers indices s output' numbers' indices'
-    → Wrote (answerText s output') out r out' → Wrote (jobText rule seed u m n w) out r out'
+    → Thinned rule source u m n w output numbers indices s output' numbers' indices'
+    → Wrote (answerText s output') out r out' → Wrote (jobText rule source u m n w) out r out'
 unfolding jobAnswer
-job-wrote {rule} {seed} {u} {m} {n} {w} {output} {numbers} {indices} {s} {output'} out r out' h g a b d k l t e =
-    let f : jobFault rule u m n w (length output) (length numbers) (length indices) ≡ sheetFault rule u m n w =
-    ap (λ (z : ℕ). jobFault rule u m n w (length output) z (length indices)) k ∙ ap (jobFault rule u m n w (length output) 4136) l
-    ∙ sheet-fault rule u m n w (length output) h g a b d in
-    let p : s ≡ jobAnswer rule seed u m n w = t .answers ∙ ap (λ (z : ℕ). pick (eqb z 0) (answerOf u n w seed rule) (refusal z)) f in
-    let q : answerText s output' ≡ jobText rule seed u m n w =
-    text-same s output' (returned u n w seed rule .w) output (t .writes) ∙ ap (λ (z : Answer). answerText z (returned u n w seed rule .w)) p in
+job-wrote {rule} {source} {u} {m} {n} {w} {output} {numbers} {indices} {s} {output'} out r out' known h g a b d k l t e =
+    let f : jobFault rule (source .edition) u m n w (length output) (length numbers) (length indices) ≡ sheetFault rule u m n w =
+    ap (λ (z : ℕ). jobFault rule (source .edition) u m n w (length output) z (length indices)) k
+    ∙ ap (jobFault rule (source .edition) u m n w (length output) 4136) l
+    ∙ sheet-fault rule (source .edition) u m n w (length output) known h g a b d in
+    let p : s ≡ jobAnswer rule source u m n w = t .answers ∙ ap (λ (z : ℕ). pick (eqb z 0) (answerOf u n w source rule) (refusal z)) f in
+    let q : answerText s output' ≡ jobText rule source u m n w =
+    text-same s output' (returned u n w source rule .w) output (t .writes) ∙ ap (λ (z : Answer). answerText z (returned u n w source rule .w)) p in
     rw q at e

@@ -1,7 +1,7 @@
 -- The answer of a whole sheet: what is read from it, its answer in the buffer of the program and in the caller's, that no second answer fits, and how
 -- long an answer can be.
 use borrow.Author.Tests.{eq-eqb, ne-eqb, eqb-true, leb-true, le-leb, lt-leb}
-use Prim.Native.Nat.{ℕ, _+_, _*_, _≤_, _<_}
+use Prim.Native.Nat.{ℕ, suc, _+_, _*_, _≤_, _<_}
 use mathlib.Core.Path.{_≡_, refl, sym, ap, _∙_}
 use mathlib.Core.Bool.{Bool, true, false}
 use mathlib.Core.List.{List, [], _∷_, _++_}
@@ -24,7 +24,11 @@ use Rattle.rules.specs.declared.Rule.{Rule}
 use Rattle.sparsification.specs.Answers.{returned, stopFor}
 use Rattle.stages.proofs.Lengths.{length-normalized, length-stage}
 use Rattle.head.specs.declared.Head.{Head}
-use Rattle.head.specs.FirstLine.{headOf}
+use Rattle.head.specs.declared.EditionField.{EditionField}
+use Rattle.head.specs.Words.{secondEdition}
+use Rattle.fields.specs.Bytes.{byteAt, spelled, newline}
+use Rattle.faults.specs.Faults.{editionFault}
+use Rattle.head.specs.FirstLine.{sizesAt, ruleAt, editionAt, headOf}
 use Rattle.form.specs.Form.{wrongLine}
 use Rattle.form.specs.Reading.{doubleAt, weightPlace, weightsOf, matrixOf}
 use Rattle.form.proofs.Lines.{right}
@@ -33,10 +37,11 @@ use Rattle.form.proofs.Verdicts.{Sized, sized}
 use Rattle.fields.specs.Texts.{noteText}
 use Rattle.fields.specs.Steps.{WroteOn}
 use Rattle.sheet.specs.Words.{badWord, refusedWord}
-use Rattle.sheet.specs.Answer.{okLine, weightLines, answerText, jobAnswer, jobText, sheetAnswer, Answered}
+use Rattle.sheet.specs.Answer.{okLine, weightLines, answerText, jobAnswer, jobText, sourceOf, sheetAnswer, Answered}
 use Rattle.sheet.specs.Steps.{Wrote}
 use Rattle.sheet.proofs.Puts.{front-of}
 use Rattle.sheet.proofs.Lines.{length-ok, length-lines}
+use Rattle.draw.specs.declared.SplitMix64.{SplitMix64}
 
 -- the sizes of a sheet of the form
 pub sizes-of : (t : List ℕ) (h : Head) (line : ℕ) → line ≡ wrongLine t → line ≡ 0 → h ≡ headOf t → Sized h
@@ -63,9 +68,22 @@ module _ (k : ℕ) (ys array : List Float) where
       let g : ys ≡ tabulate f k = e ∙ ap (tabulate f) (length-take-le k array h) in
       take-at ys (drop k array) k (ap length g ∙ length-tab f k) ∙ g
 
+-- the edition that a first line names is known
+pub edition-known : (t : List ℕ) → editionFault (headOf t .edition) ≡ 0
+unfolding headOf editionAt
+edition-known t =
+    let i : ℕ = ruleAt t (sizesAt t 5 .next + 17) .next in
+    picked (spelled secondEdition t i) (record { ok = true; edition = 2; next = i + 3 })
+    (record { ok = eqb (byteAt t i) newline; edition = 1; next = suc i }) refl refl
+  where
+    picked : (b : Bool) (x y : EditionField) → editionFault (x .edition) ≡ 0 → editionFault (y .edition) ≡ 0
+        → editionFault (pick b x y .edition) ≡ 0
+    picked true x y p q = p
+    picked false x y p q = q
+
 pub job-read : (t : List ℕ) (h : Head) (u w : List Float) (out : List ℕ) (r : ℕ) (out' : List ℕ) → u ≡ matrixOf t h → w ≡ weightsOf t h
-    → Wrote (jobText (h .rule) (h .seed) u (h .m) (h .n) w) out r out'
-    → Wrote (jobText (h .rule) (h .seed) (matrixOf t h) (h .m) (h .n) (weightsOf t h)) out r out'
+    → Wrote (jobText (h .rule) (sourceOf h) u (h .m) (h .n) w) out r out'
+    → Wrote (jobText (h .rule) (sourceOf h) (matrixOf t h) (h .m) (h .n) (weightsOf t h)) out r out'
 job-read t h u w out r out' e f g = rw (← e, ← f) g
 
 pub sheet-bad : (t : List ℕ) (line : ℕ) (out : List ℕ) (r : ℕ) (out' : List ℕ) → line ≡ wrongLine t → (line ≡ 0 → ⊥)
@@ -75,7 +93,7 @@ unfolding sheetAnswer
 sheet-bad t line out r out' e h g room = rw (← e, ne-eqb line 0 h) (front-of g (omega (arith, length-note badWord line, width-most line)))
 
 pub sheet-good : (t : List ℕ) (line : ℕ) (h : Head) (out : List ℕ) (r : ℕ) (out' : List ℕ) → line ≡ wrongLine t → line ≡ 0 → h ≡ headOf t
-    → Wrote (jobText (h .rule) (h .seed) (matrixOf t h) (h .m) (h .n) (weightsOf t h)) out r out'
+    → Wrote (jobText (h .rule) (sourceOf h) (matrixOf t h) (h .m) (h .n) (weightsOf t h)) out r out'
     → Wrote (sheetAnswer t) out r out'
 unfolding sheetAnswer
 sheet-good t line h out r out' e z g w = rw (eq-eqb (wrongLine t) 0 (sym e ∙ z)) (rw g at w)
@@ -110,17 +128,17 @@ length-answer s w h = go (eqb (s .number) 0)
     go true = rw (length-append (okLine s) (weightLines w (length w))) (omega (arith, length-ok s, length-lines w (length w)))
     go false = omega (arith, length-note refusedWord (s .number), width-most (s .number))
 
-length-returned : (u : List Float) (n : ℕ) (w : List Float) (seed : ℕ) (rule : Rule) → length (returned u n w seed rule .w) ≡ length w
-length-returned u n w seed rule =
-    length-stage plusZero (columnsOf u n) n (normalized plusZero w) seed (stopFor u n w seed rule) ∙ length-normalized plusZero w
+length-returned : (u : List Float) (n : ℕ) (w : List Float) (source : SplitMix64) (rule : Rule) → length (returned u n w source rule .w) ≡ length w
+length-returned u n w source rule =
+    length-stage plusZero (columnsOf u n) n (normalized plusZero w) source (stopFor u n w source rule) ∙ length-normalized plusZero w
 
-length-job : (t : List ℕ) (h : Head) → h .m ≤ 32 → length (jobText (h .rule) (h .seed) (matrixOf t h) (h .m) (h .n) (weightsOf t h)) ≤ 1342
+length-job : (t : List ℕ) (h : Head) → h .m ≤ 32 → length (jobText (h .rule) (sourceOf h) (matrixOf t h) (h .m) (h .n) (weightsOf t h)) ≤ 1342
 length-job t h g =
-    length-answer (jobAnswer (h .rule) (h .seed) (matrixOf t h) (h .m) (h .n) (weightsOf t h))
-    (returned (matrixOf t h) (h .n) (weightsOf t h) (h .seed) (h .rule) .w)
+    length-answer (jobAnswer (h .rule) (sourceOf h) (matrixOf t h) (h .m) (h .n) (weightsOf t h))
+    (returned (matrixOf t h) (h .n) (weightsOf t h) (sourceOf h) (h .rule) .w)
     (omega (
       arith,
-      length-returned (matrixOf t h) (h .n) (weightsOf t h) (h .seed) (h .rule),
+      length-returned (matrixOf t h) (h .n) (weightsOf t h) (sourceOf h) (h .rule),
       length-tab (λ j. doubleAt t (weightPlace (h .next) (h .n) j)) (h .m),
     ))
 
@@ -130,7 +148,7 @@ unfolding sheetAnswer
 answer-most t = go (eqb (wrongLine t) 0) refl
   where
     go : (s : Bool) → eqb (wrongLine t) 0 ≡ s
-        → length (pick s (jobText (headOf t .rule) (headOf t .seed) (matrixOf t (headOf t)) (headOf t .m) (headOf t .n)
+        → length (pick s (jobText (headOf t .rule) (sourceOf (headOf t)) (matrixOf t (headOf t)) (headOf t .m) (headOf t .n)
         (weightsOf t (headOf t))) (noteText badWord (wrongLine t))) ≤ 1342
     go true e = length-job t (headOf t) (sizes-of t (headOf t) (wrongLine t) refl (eqb-true (wrongLine t) 0 e) refl .columns)
     go false e = omega (arith, length-note badWord (wrongLine t), width-most (wrongLine t))

@@ -19,6 +19,9 @@ use Rattle.sheet.specs.Words.{okWord, weightWord, refusedWord, badWord}
 use Rattle.head.specs.FirstLine.{headOf}
 use Rattle.form.specs.Form.{wrongLine}
 use Rattle.form.specs.Reading.{weightsOf, matrixOf}
+use Rattle.head.specs.declared.Head.{Head}
+use Rattle.draw.specs.declared.SplitMix64.{SplitMix64}
+use Rattle.draw.specs.SplitMix.{seeded}
 
 -- the line of weight j
 abbrev pub weightLine : ℕ → Float → List ℕ
@@ -39,23 +42,27 @@ okLine r =
 unfoldable pub answerText : Answer → List Float → List ℕ
 answerText r w = pick (eqb (r .number) 0) (okLine r ++ weightLines w (length w)) (noteText refusedWord (r .number))
 
--- What a sheet's job is refused for: of the numbers, a sheet can reach 1, 12, 2, 5, 7, 8 and 9.
+-- What a sheet's job is refused for: of the numbers, a sheet can reach 1, 12, 2, 5, 7, 8 and 9; its edition is 1 or 2.
 unfoldable pub sheetFault : Rule → List Float → ℕ → ℕ → List Float → ℕ
 sheetFault rule u m n w = orElse (ruleFault rule) (orElse (pick (eqb m 0 || eqb n 0) 5 0) (valueFault u w))
 
--- what the job of a matrix, weights, seed and rule answers
-unfoldable pub jobAnswer : Rule → ℕ → List Float → ℕ → ℕ → List Float → Answer
-jobAnswer rule seed u m n w = pick (eqb (sheetFault rule u m n w) 0) (answerOf u n w seed rule) (refusal (sheetFault rule u m n w))
+-- what the job of a matrix, weights, generator and rule answers
+unfoldable pub jobAnswer : Rule → SplitMix64 → List Float → ℕ → ℕ → List Float → Answer
+jobAnswer rule source u m n w = pick (eqb (sheetFault rule u m n w) 0) (answerOf u n w source rule) (refusal (sheetFault rule u m n w))
 
 -- the text that answers the job
-abbrev pub jobText : Rule → ℕ → List Float → ℕ → ℕ → List Float → List ℕ
-jobText rule seed u m n w = answerText (jobAnswer rule seed u m n w) (returned u n w seed rule .w)
+abbrev pub jobText : Rule → SplitMix64 → List Float → ℕ → ℕ → List Float → List ℕ
+jobText rule source u m n w = answerText (jobAnswer rule source u m n w) (returned u n w source rule .w)
+
+-- the generator that a first line names
+abbrev pub sourceOf : Head → SplitMix64
+sourceOf h = seeded (h .seed) (h .edition)
 
 -- the text that answers a sheet
 unfoldable pub sheetAnswer : List ℕ → List ℕ
 sheetAnswer text =
     pick (eqb (wrongLine text) 0)
-    (jobText (headOf text .rule) (headOf text .seed) (matrixOf text (headOf text)) (headOf text .m)
+    (jobText (headOf text .rule) (sourceOf (headOf text)) (matrixOf text (headOf text)) (headOf text .m)
     (headOf text .n) (weightsOf text (headOf text)))
     (noteText badWord (wrongLine text))
 

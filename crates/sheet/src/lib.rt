@@ -15,8 +15,10 @@ use sparsification::thin;
 ghost use mathlib.Core.Path.{_≡_};
 ghost use Prim.Native.Nat.{_*_, _≤_};
 ghost use lib.ListN.{length};
+ghost use Rattle.draw.specs.SplitMix.{seeded};
+ghost use Rattle.faults.specs.Faults.{editionFault};
 ghost use Rattle.form.specs.Reading.{weightsOf, matrixOf};
-ghost use Rattle.sheet.specs.Answer.{jobText, sheetAnswer, Answered};
+ghost use Rattle.sheet.specs.Answer.{jobText, sourceOf, sheetAnswer, Answered};
 ghost use Rattle.sheet.specs.Steps.{Wrote};
 
 // Thins, and writes the answer.
@@ -27,16 +29,22 @@ fn answer_job(
     n: usize,
     weights: &[f64],
     seed: u64,
+    edition: u32,
     rule: Rule,
     output: &mut [f64],
 ) -> usize
     requires { ⌜ (m ≤ 32) × (n ≤ 64) × (length (now matrix) ≡ m * n) × (length (now weights) ≡ m) × (length (now output) ≡ m)
-        × (1342 ≤ length (now out)) ⌝ }
-    ensures { λ r. ⌜ Wrote (jobText rule seed (now (matrix .entry)) m n (now (weights .entry))) (now (out .entry)) r (now (out .exit)) ⌝ }
+        × (1342 ≤ length (now out)) × (editionFault edition ≡ 0) ⌝ }
+    ensures { λ r. ⌜ Wrote (jobText rule (seeded seed edition) (now (matrix .entry)) m n (now (weights .entry)))
+        (now (out .entry)) r (now (out .exit)) ⌝ }
 {
     let mut numbers = [0.0f64; 4136];
     let mut indices = [0u32; 776];
-    let job = Job { seed, rule };
+    let job = Job {
+        seed,
+        edition,
+        rule,
+    };
     let a = thin(
         matrix,
         m,
@@ -52,8 +60,8 @@ fn answer_job(
 
 // Reads the columns of a sheet of the form, and answers its job.
 fn answer_sheet(out: &mut [u8], text: &[u8], head: Head) -> usize
-    requires { ⌜ (head .m ≤ 32) × (head .n ≤ 64) × (head .next ≤ 1000) × (1342 ≤ length (now out)) ⌝ }
-    ensures { λ r. ⌜ Wrote (jobText (head .rule) (head .seed) (matrixOf (now (text .entry)) head) (head .m) (head .n)
+    requires { ⌜ (head .m ≤ 32) × (head .n ≤ 64) × (head .next ≤ 1000) × (1342 ≤ length (now out)) × (editionFault (head .edition) ≡ 0) ⌝ }
+    ensures { λ r. ⌜ Wrote (jobText (head .rule) (sourceOf head) (matrixOf (now (text .entry)) head) (head .m) (head .n)
         (weightsOf (now (text .entry)) head)) (now (out .entry)) r (now (out .exit)) ⌝ }
 {
     let m = head.m;
@@ -72,6 +80,7 @@ fn answer_sheet(out: &mut [u8], text: &[u8], head: Head) -> usize
         n,
         &weights[..m],
         head.seed,
+        head.edition,
         rule,
         &mut output[..m],
     )

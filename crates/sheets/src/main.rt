@@ -1,4 +1,5 @@
-// sheets: sheets of every kind and their answers: the worked cases, each refusal that a sheet can reach, and each kind of wrong line.
+// sheets: sheets of every kind and their answers: the worked cases, each refusal that a sheet can reach, each kind of wrong line,
+// and editions of the draw.
 use sheet::thin_sheet;
 
 // A title, and a sheet's answer.
@@ -219,9 +220,36 @@ fn wrong_later() {
     );
 }
 
+// Sheets with a last field in their first line: edition 2 is the only one that is written.
+fn editions() {
+    show(
+        b"C1 by edition 2\n",
+        b"thin\t2\t2\t0000000000000000\twithin\t3FE0000000000000\t-\t2\n\
+          col\t3FF0000000000000\t3FF0000000000000\t3FF0000000000000\n\
+          col\t4008000000000000\t3FF0000000000000\tBFF0000000000000\n",
+    );
+    show(
+        b"2 target 0 by edition 2\n",
+        b"thin\t1\t1\t0000000000000000\ttarget\t0\t2\ncol\t3FF0000000000000\t3FF0000000000000\n",
+    );
+    show(
+        b"edition 1 written\n",
+        b"thin\t1\t1\t0000000000000000\twithin\t0000000000000000\t-\t1\ncol\t3FF0000000000000\t3FF0000000000000\n",
+    );
+    show(
+        b"edition 3\n",
+        b"thin\t1\t1\t0000000000000000\ttarget\t1\t3\ncol\t3FF0000000000000\t3FF0000000000000\n",
+    );
+    show(
+        b"edition with a leading zero\n",
+        b"thin\t1\t1\t0000000000000000\ttarget\t1\t02\ncol\t3FF0000000000000\t3FF0000000000000\n",
+    );
+}
+
 fn main() {
     accepted();
     refused();
     wrong_first();
     wrong_later();
+    editions();
 }

@@ -19,10 +19,11 @@ use Rattle.weights.specs.Weights.{normalized, l1Of, sound}
 use Rattle.limits.specs.Matrix.{columnsOf}
 use Rattle.sparsification.specs.Answers.{refusal, answerAt, answerOf, stopFor, returned, Thinned}
 use Rattle.rules.specs.Rules.{ruleFault}
-use Rattle.faults.specs.Faults.{sizeFault, valueFault, jobFault}
+use Rattle.faults.specs.Faults.{editionFault, sizeFault, valueFault, jobFault}
 use Rattle.sparsification.specs.declared.Answer.{Answer}
 use Rattle.rules.specs.declared.Rule.{Rule}
 use Rattle.seq.proofs.Choosing.{neither, both, never, shown}
+use Rattle.draw.specs.declared.SplitMix64.{SplitMix64}
 
 -- the first of two numbers that is not 0
 pub no-fault : (a b : ℕ) → orElse a b ≡ 0 → (a ≡ 0) × (b ≡ 0)
@@ -34,30 +35,30 @@ answered : (fault : ℕ) (a : Answer) → pick (eqb fault 0) a (refusal fault) .
 answered zero a h = refl
 answered (suc fault) a h = absurd (let g : suc fault ≡ 0 = rw (eqb·suc-zero fault) at h in omega arith)
 
-module _ {rule : Rule} {seed : ℕ} {u : List Float} {m n : ℕ} {w output numbers : List Float} {indices : List ℕ}
+module _ {rule : Rule} {source : SplitMix64} {u : List Float} {m n : ℕ} {w output numbers : List Float} {indices : List ℕ}
     {r : Answer} {output' numbers' : List Float} {indices' : List ℕ}
-    (job : Thinned rule seed u m n w output numbers indices r output' numbers' indices') where
+    (job : Thinned rule source u m n w output numbers indices r output' numbers' indices') where
   -- number 0 is given only where there is no fault
-  pub number-none : r .number ≡ 0 → jobFault rule u m n w (length output) (length numbers) (length indices) ≡ 0
+  pub number-none : r .number ≡ 0 → jobFault rule (source .edition) u m n w (length output) (length numbers) (length indices) ≡ 0
   number-none h =
-      answered (jobFault rule u m n w (length output) (length numbers) (length indices)) (answerOf u n w seed rule)
+      answered (jobFault rule (source .edition) u m n w (length output) (length numbers) (length indices)) (answerOf u n w source rule)
       (sym (ap (λ (x : Answer). x .number) (job .answers)) ∙ h)
 
   -- and wherever there is none, with the stage
-  pub answer-there : jobFault rule u m n w (length output) (length numbers) (length indices) ≡ 0 → r ≡ answerOf u n w seed rule
-  answer-there f = job .answers ∙ ap (λ (x : ℕ). pick (eqb x 0) (answerOf u n w seed rule) (refusal x)) f
+  pub answer-there : jobFault rule (source .edition) u m n w (length output) (length numbers) (length indices) ≡ 0 → r ≡ answerOf u n w source rule
+  answer-there f = job .answers ∙ ap (λ (x : ℕ). pick (eqb x 0) (answerOf u n w source rule) (refusal x)) f
 
-  pub number-there : jobFault rule u m n w (length output) (length numbers) (length indices) ≡ 0 → r .number ≡ 0
+  pub number-there : jobFault rule (source .edition) u m n w (length output) (length numbers) (length indices) ≡ 0 → r .number ≡ 0
   unfolding answerOf
   number-there f = rw (answer-there f)
 
   -- the answer and the output then
-  pub answer-stage : jobFault rule u m n w (length output) (length numbers) (length indices) ≡ 0
-      → r ≡ answerAt (columnsOf u n) n (normalized plusZero w) seed (stopFor u n w seed rule)
+  pub answer-stage : jobFault rule (source .edition) u m n w (length output) (length numbers) (length indices) ≡ 0
+      → r ≡ answerAt (columnsOf u n) n (normalized plusZero w) source (stopFor u n w source rule)
   unfolding answerOf
   answer-stage f = answer-there f
 
-  pub output-stage : r .number ≡ 0 → output' ≡ returned u n w seed rule .w
+  pub output-stage : r .number ≡ 0 → output' ≡ returned u n w source rule .w
   output-stage h = job .writes ∙ rw h
 
 -- every one passes
@@ -142,18 +143,21 @@ pub record Accepted (rule : Rule) (u : List Float) (m n : ℕ) (w : List Float) 
   pub sized : Sized m n (length u) (length w) output numbers indices
   pub valued : Valued u w
 
-pub accepted : (rule : Rule) (u : List Float) (m n : ℕ) (w : List Float) (output numbers indices : ℕ) → jobFault rule u m n w output numbers indices ≡ 0
-    → Accepted rule u m n w output numbers indices
+pub accepted : (rule : Rule) (edition : ℕ) (u : List Float) (m n : ℕ) (w : List Float) (output numbers indices : ℕ)
+    → jobFault rule edition u m n w output numbers indices ≡ 0 → Accepted rule u m n w output numbers indices
 unfolding jobFault
-accepted rule u m n w output numbers indices h =
-    let a = no-fault (ruleFault rule) (orElse (sizeFault m n (length u) (length w) output numbers indices) (valueFault u w)) h in
-    let b = no-fault (sizeFault m n (length u) (length w) output numbers indices) (valueFault u w) (a .1) in
-    record { ruled = a .0; sized = sizes-good m n (length u) (length w) output numbers indices (b .0); valued = values-good u w (b .1) }
+accepted rule edition u m n w output numbers indices h =
+    let sizes : ℕ = sizeFault m n (length u) (length w) output numbers indices in
+    let a = no-fault (ruleFault rule) (orElse (editionFault edition) (orElse sizes (valueFault u w))) h in
+    let b = no-fault (editionFault edition) (orElse sizes (valueFault u w)) (a .1) in
+    let c = no-fault sizes (valueFault u w) (b .1) in
+    record { ruled = a .0; sized = sizes-good m n (length u) (length w) output numbers indices (c .0); valued = values-good u w (c .1) }
 
 -- and its values are without a fault
-pub values-fine : (rule : Rule) (u : List Float) (m n : ℕ) (w : List Float) (output numbers indices : ℕ) → jobFault rule u m n w output numbers indices ≡ 0
-    → valueFault u w ≡ 0
+pub values-fine : (rule : Rule) (edition : ℕ) (u : List Float) (m n : ℕ) (w : List Float) (output numbers indices : ℕ)
+    → jobFault rule edition u m n w output numbers indices ≡ 0 → valueFault u w ≡ 0
 unfolding jobFault
-values-fine rule u m n w output numbers indices h =
-    no-fault (sizeFault m n (length u) (length w) output numbers indices) (valueFault u w)
-    (no-fault (ruleFault rule) (orElse (sizeFault m n (length u) (length w) output numbers indices) (valueFault u w)) h .1) .1
+values-fine rule edition u m n w output numbers indices h =
+    let sizes : ℕ = sizeFault m n (length u) (length w) output numbers indices in
+    let a = no-fault (ruleFault rule) (orElse (editionFault edition) (orElse sizes (valueFault u w))) h in
+    no-fault sizes (valueFault u w) (no-fault (editionFault edition) (orElse sizes (valueFault u w)) (a .1) .1) .1

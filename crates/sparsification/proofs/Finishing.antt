@@ -32,28 +32,30 @@ use Rattle.sparsification.specs.Thinning.{answerFor, ThinnedFrom}
 use Rattle.sparsification.specs.declared.Answer.{Answer}
 use Rattle.rules.specs.declared.Rule.{Rule}
 use Rattle.sparsification.proofs.Accepting.{Sized}
+use Rattle.draw.specs.declared.SplitMix64.{SplitMix64}
 
 -- the answer for the end of a path is that for its stage
-answer-noted : (u : ℕ → ℕ → Float) (n : ℕ) (start : List Float) (seed k : ℕ) (p : Path) → Noted u n start seed k p → answerFor p ≡ answerAt u n start seed k
-answer-noted u n start seed k p q =
-    rw (q .stage, q .nonzeros, q .change, path-at 0 (entriesAt plusZero u n start seed) k k 0 (omega arith))
-    (rw (path-at plusZero (λ i. movedBy u n start (stageOf plusZero u n start seed i)) k k nan (omega arith)))
+answer-noted : (u : ℕ → ℕ → Float) (n : ℕ) (start : List Float) (source : SplitMix64) (k : ℕ) (p : Path) → Noted u n start source k p
+    → answerFor p ≡ answerAt u n start source k
+answer-noted u n start source k p q =
+    rw (q .stage, q .nonzeros, q .change, path-at 0 (entriesAt plusZero u n start source) k k 0 (omega arith))
+    (rw (path-at plusZero (λ i. movedBy u n start (stageOf plusZero u n start source i)) k k nan (omega arith)))
 
 -- a job from normalized weights: the stages were followed from a copy of them
-pub done-from : (u : ℕ → ℕ → Float) (n : ℕ) (start : List Float) (seed : ℕ) (rule : Rule) {copy output' : List Float} {p : Path} → copy ≡ start
-    → Followed u n copy seed rule p output' → (numbers numbers' : List Float) (indices indices' : List ℕ) (r : Answer)
+pub done-from : (u : ℕ → ℕ → Float) (n : ℕ) (start : List Float) (source : SplitMix64) (rule : Rule) {copy output' : List Float} {p : Path} → copy ≡ start
+    → Followed u n copy source rule p output' → (numbers numbers' : List Float) (indices indices' : List ℕ) (r : Answer)
     → r ≡ answerFor p → numbers' ≡ repeated plusZero (length numbers) → indices' ≡ repeated 0 (length indices)
-    → ThinnedFrom u n start seed rule numbers indices r output' numbers' indices'
-done-from u n start seed rule {copy} {output'} {p} copied follows numbers numbers' indices indices' r a N I =
-    let f : Followed u n start seed rule p output' = rw copied at follows in
-    record { answers = a ∙ answer-noted u n start seed (stopOf plusZero u n start seed rule) p (f .path); writes = f .weights; floats = N; words = I }
+    → ThinnedFrom u n start source rule numbers indices r output' numbers' indices'
+done-from u n start source rule {copy} {output'} {p} copied follows numbers numbers' indices indices' r a N I =
+    let f : Followed u n start source rule p output' = rw copied at follows in
+    record { answers = a ∙ answer-noted u n start source (stopOf plusZero u n start source rule) p (f .path); writes = f .weights; floats = N; words = I }
 
-module _ (rule : Rule) (seed : ℕ) (u : List Float) (m n : ℕ) (w output numbers : List Float) (indices : List ℕ) where
+module _ (rule : Rule) (source : SplitMix64) (u : List Float) (m n : ℕ) (w output numbers : List Float) (indices : List ℕ) where
   -- refused
-  pub thinned-refused : (k : ℕ) (r : Answer) → k ≡ jobFault rule u m n w (length output) (length numbers) (length indices) → (k ≡ 0 → ⊥)
-      → r ≡ refusal k → Thinned rule seed u m n w output numbers indices r output numbers indices
+  pub thinned-refused : (k : ℕ) (r : Answer) → k ≡ jobFault rule (source .edition) u m n w (length output) (length numbers) (length indices) → (k ≡ 0 → ⊥)
+      → r ≡ refusal k → Thinned rule source u m n w output numbers indices r output numbers indices
   thinned-refused k r e h a =
-      let z : eqb (jobFault rule u m n w (length output) (length numbers) (length indices)) 0 ≡ false = rw (← e) (ne-eqb k 0 h) in
+      let z : eqb (jobFault rule (source .edition) u m n w (length output) (length numbers) (length indices)) 0 ≡ false = rw (← e) (ne-eqb k 0 h) in
       record {
         answers = a ∙ ap refusal e ∙ sym (rw z);
         writes = sym (rw (a, ne-eqb k 0 h));
@@ -62,10 +64,10 @@ module _ (rule : Rule) (seed : ℕ) (u : List Float) (m n : ℕ) (w output numbe
       }
 
   -- accepted
-  pub thinned-from : jobFault rule u m n w (length output) (length numbers) (length indices) ≡ 0
+  pub thinned-from : jobFault rule (source .edition) u m n w (length output) (length numbers) (length indices) ≡ 0
       → (r : Answer) (output' numbers' : List Float) (indices' : List ℕ)
-      → ThinnedFrom (columnsOf u n) n (normalized plusZero w) seed rule numbers indices r output' numbers' indices'
-      → Thinned rule seed u m n w output numbers indices r output' numbers' indices'
+      → ThinnedFrom (columnsOf u n) n (normalized plusZero w) source rule numbers indices r output' numbers' indices'
+      → Thinned rule source u m n w output numbers indices r output' numbers' indices'
   unfolding answerOf
   thinned-from z r output' numbers' indices' p =
       record {

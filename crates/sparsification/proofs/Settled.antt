@@ -22,27 +22,30 @@ use Rattle.stages.proofs.Lengths.{length-stage}
 use Rattle.stages.proofs.Passing.{falling, normal-stage}
 use Rattle.sparsification.proofs.Accepting.{accepted, number-there, answer-stage, output-stage}
 use Rattle.sparsification.proofs.DemandThree.{Doubles, start-normal, start-few}
+use Rattle.draw.specs.declared.SplitMix64.{SplitMix64}
 
-module _ (u : ℕ → ℕ → Float) (n : ℕ) (start : List Float) (seed : ℕ) (normal : Normal binary64 (length start) (at start)) (short : length start ≤ 256) where
-  pub stage-alone : (i : ℕ) → Leads plusZero u n start seed i → 2 ≤ entriesAt plusZero u n start seed i → entriesAt plusZero u n start seed i ≤ 4
-      → (k : ℕ) → Largest (stageOf plusZero u n start seed i .w) k → Alone (stageOf plusZero u n start seed i .w) (stageOf plusZero u n start seed (suc i) .w) k
+module _ (u : ℕ → ℕ → Float) (n : ℕ) (start : List Float) (source : SplitMix64) (normal : Normal binary64 (length start) (at start))
+    (short : length start ≤ 256) where
+  pub stage-alone : (i : ℕ) → Leads plusZero u n start source i → 2 ≤ entriesAt plusZero u n start source i → entriesAt plusZero u n start source i ≤ 4
+      → (k : ℕ) → Largest (stageOf plusZero u n start source i .w) k
+      → Alone (stageOf plusZero u n start source i .w) (stageOf plusZero u n start source (suc i) .w) k
   unfolding stageOf
   stage-alone i g some few =
-      largest-alone u n (stageOf plusZero u n start seed i) some few (normal-stage u n start seed normal short i g)
-      (rw (length-stage plusZero u n start seed i) short)
+      largest-alone u n (stageOf plusZero u n start source i) some few (normal-stage u n start source normal short i g)
+      (rw (length-stage plusZero u n start source i) short)
 
-module _ {rule : Rule} {seed : ℕ} {u : List Float} {m n : ℕ} {w output numbers : List Float} {indices : List ℕ}
+module _ {rule : Rule} {source : SplitMix64} {u : List Float} {m n : ℕ} {w output numbers : List Float} {indices : List ℕ}
     {r : Answer} {output' numbers' : List Float} {indices' : List ℕ}
-    (job : Thinned rule seed u m n w output numbers indices r output' numbers' indices') (doubles : Doubles w)
-    (sound : jobFault rule u m n w (length output) (length numbers) (length indices) ≡ 0)
-    (k : ℕ) (stop : FirstStop plusZero (columnsOf u n) n (normalized plusZero w) seed rule k) where
-  pub settled : (r ≡ answerAt (columnsOf u n) n (normalized plusZero w) seed k)
-      × (output' ≡ stageOf plusZero (columnsOf u n) n (normalized plusZero w) seed k .w)
+    (job : Thinned rule source u m n w output numbers indices r output' numbers' indices') (doubles : Doubles w)
+    (sound : jobFault rule (source .edition) u m n w (length output) (length numbers) (length indices) ≡ 0)
+    (k : ℕ) (stop : FirstStop plusZero (columnsOf u n) n (normalized plusZero w) source rule k) where
+  pub settled : (r ≡ answerAt (columnsOf u n) n (normalized plusZero w) source k)
+      × (output' ≡ stageOf plusZero (columnsOf u n) n (normalized plusZero w) source k .w)
   settled =
       let start : List Float = normalized plusZero w in
-      let a = accepted rule u m n w (length output) (length numbers) (length indices) sound in
-      let falls = falling (columnsOf u n) n start seed (start-normal doubles a) (start-few doubles a) in
-      let e = only plusZero (columnsOf u n) n start seed (stop-is-first plusZero (columnsOf u n) n start seed falls rule (a .ruled)) stop in (
-        answer-stage job sound ∙ ap (answerAt (columnsOf u n) n start seed) e,
-        output-stage job (number-there job sound) ∙ ap (λ (i : ℕ). stageOf plusZero (columnsOf u n) n start seed i .w) e,
+      let a = accepted rule (source .edition) u m n w (length output) (length numbers) (length indices) sound in
+      let falls = falling (columnsOf u n) n start source (start-normal doubles a) (start-few doubles a) in
+      let e = only plusZero (columnsOf u n) n start source (stop-is-first plusZero (columnsOf u n) n start source falls rule (a .ruled)) stop in (
+        answer-stage job sound ∙ ap (answerAt (columnsOf u n) n start source) e,
+        output-stage job (number-there job sound) ∙ ap (λ (i : ℕ). stageOf plusZero (columnsOf u n) n start source i .w) e,
       )

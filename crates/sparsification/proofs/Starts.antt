@@ -17,41 +17,42 @@ use Rattle.rules.specs.Rules.{meets}
 use Rattle.stages.specs.Stopping.{rests, exceeds, stops, firstStop, stopOf}
 use Rattle.rules.specs.declared.Rule.{Rule}
 use Rattle.rules.specs.declared.Rule.the-variants.{Target, Within}
+use Rattle.draw.specs.declared.SplitMix64.{SplitMix64}
 
-module _ (u : ℕ → ℕ → Float) (n : ℕ) (start : List Float) (seed : ℕ) where
-  stage-same : (i : ℕ) → stageOf minusZero u n start seed i ≡ stageOf plusZero u n start seed i
+module _ (u : ℕ → ℕ → Float) (n : ℕ) (start : List Float) (source : SplitMix64) where
+  stage-same : (i : ℕ) → stageOf minusZero u n start source i ≡ stageOf plusZero u n start source i
   unfolding stageOf
   stage-same zero = refl
-  stage-same (suc i) = ap (passOf minusZero u n) (stage-same i) ∙ pass-same u n (stageOf plusZero u n start seed i)
+  stage-same (suc i) = ap (passOf minusZero u n) (stage-same i) ∙ pass-same u n (stageOf plusZero u n start source i)
 
-  rests-same : (rule : Rule) (i : ℕ) → rests minusZero u n start seed rule i ≡ rests plusZero u n start seed rule i
+  rests-same : (rule : Rule) (i : ℕ) → rests minusZero u n start source rule i ≡ rests plusZero u n start source rule i
   rests-same (Target t) i = ap (λ (s : Halved). leb (nonzeros (s .w)) t) (stage-same i)
   rests-same (Within allowance cap) i =
       ap (λ (s : Halved). leb (nonzeros (s .w)) 1 || (ltb 0 i && (not (le (movedBy u n start s) allowance) && meets cap (nonzeros (s .w))))) (stage-same i)
 
-  exceeds-same : (rule : Rule) (i : ℕ) → exceeds minusZero u n start seed rule i ≡ exceeds plusZero u n start seed rule i
+  exceeds-same : (rule : Rule) (i : ℕ) → exceeds minusZero u n start source rule i ≡ exceeds plusZero u n start source rule i
   exceeds-same (Target t) i = refl
   exceeds-same (Within allowance cap) i =
       λ j. meets cap (nonzeros (stage-same i j .w)) && not (le (movedBy u n start (stage-same (suc i) j)) allowance)
 
-  stops-same : (rule : Rule) (i : ℕ) → stops minusZero u n start seed rule i ≡ stops plusZero u n start seed rule i
+  stops-same : (rule : Rule) (i : ℕ) → stops minusZero u n start source rule i ≡ stops plusZero u n start source rule i
   stops-same rule i = λ j. rests-same rule i j || exceeds-same rule i j
 
-  first-same : (rule : Rule) (k i : ℕ) → firstStop minusZero u n start seed rule k i ≡ firstStop plusZero u n start seed rule k i
+  first-same : (rule : Rule) (k i : ℕ) → firstStop minusZero u n start source rule k i ≡ firstStop plusZero u n start source rule k i
   unfolding firstStop
   first-same rule zero i = refl
   first-same rule (suc k) i = λ j. pick (stops-same rule i j) i (first-same rule k (suc i) j)
 
-  stop-same : (rule : Rule) → stopOf minusZero u n start seed rule ≡ stopOf plusZero u n start seed rule
+  stop-same : (rule : Rule) → stopOf minusZero u n start source rule ≡ stopOf plusZero u n start source rule
   stop-same rule = first-same rule (length start) 0
 
 -- from the weights as they are given
-module _ (u : ℕ → ℕ → Float) (n : ℕ) (w : List Float) (seed : ℕ) where
-  pub stages-alike : (i : ℕ) → stageOf minusZero u n (normalized minusZero w) seed i ≡ stageOf plusZero u n (normalized plusZero w) seed i
-  stages-alike i = stage-same u n (normalized minusZero w) seed i ∙ ap (λ (start : List Float). stageOf plusZero u n start seed i) (normalized-same w)
+module _ (u : ℕ → ℕ → Float) (n : ℕ) (w : List Float) (source : SplitMix64) where
+  pub stages-alike : (i : ℕ) → stageOf minusZero u n (normalized minusZero w) source i ≡ stageOf plusZero u n (normalized plusZero w) source i
+  stages-alike i = stage-same u n (normalized minusZero w) source i ∙ ap (λ (start : List Float). stageOf plusZero u n start source i) (normalized-same w)
 
-  pub stops-alike : (rule : Rule) → stopOf minusZero u n (normalized minusZero w) seed rule ≡ stopOf plusZero u n (normalized plusZero w) seed rule
-  stops-alike rule = stop-same u n (normalized minusZero w) seed rule ∙ ap (λ (start : List Float). stopOf plusZero u n start seed rule) (normalized-same w)
+  pub stops-alike : (rule : Rule) → stopOf minusZero u n (normalized minusZero w) source rule ≡ stopOf plusZero u n (normalized plusZero w) source rule
+  stops-alike rule = stop-same u n (normalized minusZero w) source rule ∙ ap (λ (start : List Float). stopOf plusZero u n start source rule) (normalized-same w)
 
 -- and the number 9 is the same
 pub nine-alike : (w : List Float) → _≡_ {A = ℕ} (pick (sound (l1Of minusZero w)) 0 9) (pick (sound (l1Of plusZero w)) 0 9)

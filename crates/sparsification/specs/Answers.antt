@@ -16,6 +16,7 @@ use Rattle.stages.specs.Stopping.{stopOf}
 use Rattle.faults.specs.Faults.{jobFault}
 use Rattle.sparsification.specs.declared.Answer.{Answer}
 use Rattle.rules.specs.declared.Rule.{Rule}
+use Rattle.draw.specs.declared.SplitMix64.{SplitMix64}
 
 -- a refusal: its number, and zeros
 abbrev pub refusal : ℕ → Answer
@@ -30,36 +31,36 @@ refusal number =
     }
 
 -- the answer that returns stage k: its nonzeros, its change from the normalized weights, and both of every stage up to it
-abbrev pub answerAt : (ℕ → ℕ → Float) → ℕ → List Float → ℕ → ℕ → Answer
-answerAt u n start seed k =
-    let s : Halved = stageOf plusZero u n start seed k in
+abbrev pub answerAt : (ℕ → ℕ → Float) → ℕ → List Float → SplitMix64 → ℕ → Answer
+answerAt u n start source k =
+    let s : Halved = stageOf plusZero u n start source k in
     record {
       number = 0;
       stage = k;
       nonzeros = nonzeros (s .w);
       change = movedBy u n start s;
-      «path_nonzeros» = pathNonzeros plusZero u n start seed k;
-      «path_change» = pathChange plusZero u n start seed k;
+      «path_nonzeros» = pathNonzeros plusZero u n start source k;
+      «path_change» = pathChange plusZero u n start source k;
     }
 
 -- the stage at which a job on the weights w stops
-abbrev pub stopFor : List Float → ℕ → List Float → ℕ → Rule → ℕ
-stopFor u n w seed rule = stopOf plusZero (columnsOf u n) n (normalized plusZero w) seed rule
+abbrev pub stopFor : List Float → ℕ → List Float → SplitMix64 → Rule → ℕ
+stopFor u n w source rule = stopOf plusZero (columnsOf u n) n (normalized plusZero w) source rule
 
 -- what it returns there
-abbrev pub returned : List Float → ℕ → List Float → ℕ → Rule → Halved
-returned u n w seed rule = stageOf plusZero (columnsOf u n) n (normalized plusZero w) seed (stopFor u n w seed rule)
+abbrev pub returned : List Float → ℕ → List Float → SplitMix64 → Rule → Halved
+returned u n w source rule = stageOf plusZero (columnsOf u n) n (normalized plusZero w) source (stopFor u n w source rule)
 
 -- the answer of a job that is not refused
-unfoldable pub answerOf : List Float → ℕ → List Float → ℕ → Rule → Answer
-answerOf u n w seed rule = answerAt (columnsOf u n) n (normalized plusZero w) seed (stopFor u n w seed rule)
+unfoldable pub answerOf : List Float → ℕ → List Float → SplitMix64 → Rule → Answer
+answerOf u n w source rule = answerAt (columnsOf u n) n (normalized plusZero w) source (stopFor u n w source rule)
 
 -- The answer, the output and the scratch: a refusal changes nothing, and an accepted job writes its stage and zeroes the scratch.
-pub record Thinned (rule : Rule) (seed : ℕ) (u : List Float) (m n : ℕ) (w output numbers : List Float) (indices : List ℕ)
+pub record Thinned (rule : Rule) (source : SplitMix64) (u : List Float) (m n : ℕ) (w output numbers : List Float) (indices : List ℕ)
     (r : Answer) (output' numbers' : List Float) (indices' : List ℕ) : Type 0 where
-  pub answers : r ≡ pick (eqb (jobFault rule u m n w (length output) (length numbers) (length indices)) 0)
-      (answerOf u n w seed rule)
-      (refusal (jobFault rule u m n w (length output) (length numbers) (length indices)))
-  pub writes : output' ≡ pick (eqb (r .number) 0) (returned u n w seed rule .w) output
+  pub answers : r ≡ pick (eqb (jobFault rule (source .edition) u m n w (length output) (length numbers) (length indices)) 0)
+      (answerOf u n w source rule)
+      (refusal (jobFault rule (source .edition) u m n w (length output) (length numbers) (length indices)))
+  pub writes : output' ≡ pick (eqb (r .number) 0) (returned u n w source rule .w) output
   pub floats : numbers' ≡ pick (eqb (r .number) 0) (repeated plusZero (length numbers)) numbers
   pub words : indices' ≡ pick (eqb (r .number) 0) (repeated 0 (length indices)) indices

@@ -1,6 +1,5 @@
--- Two jobs on one matrix, weights and seed, of one kind, the second allowing at least as much: its answer is the same or a later stage
--- of the one
--- sequence, its nonzero entries stand among the first's with the same signs, and each keeps what its rule asks for.
+-- Two jobs on one matrix, weights, seed and edition, of one kind, the second allowing at least as much: its answer is the same or a
+-- later stage of the one sequence, its nonzero entries stand among the first's with the same signs, and each keeps what its rule asks for.
 use Prim.Native.Nat.{ℕ, _≤_}
 use mathlib.Core.Path.{_≡_}
 use mathlib.Core.Bool.{Bool, true, false, _&&_}
@@ -17,6 +16,7 @@ use Rattle.rules.specs.declared.Cap.{Cap}
 use Rattle.rules.specs.declared.Cap.the-variants.{Absent, AtMost}
 use Rattle.rules.specs.declared.Rule.{Rule}
 use Rattle.rules.specs.declared.Rule.the-variants.{Target, Within}
+use Rattle.draw.specs.declared.SplitMix64.{SplitMix64}
 
 -- The second cap is at least as hard to meet: any cap beside an absent one, and a cap that is no larger beside a cap.
 -- An absent cap beside a cap is not: with a matrix that moves a margin, allowance 0 and cap 1 thin to one entry, and allowance 0 alone
@@ -44,10 +44,10 @@ keeps (Within a Absent) r = le (r .change) a
 keeps (Within a (AtMost c)) r = leb (r .nonzeros) c
 
 -- two answers r and s with their outputs, the second's rule given
-pub record Later (u : List Float) (n : ℕ) (w : List Float) (seed : ℕ) (rule : Rule) (r s : Answer)
+pub record Later (u : List Float) (n : ℕ) (w : List Float) (source : SplitMix64) (rule : Rule) (r s : Answer)
     (first second : List Float) : Type 0 where
   pub later : r .stage ≤ s .stage
-  pub one : first ≡ stageOf plusZero (columnsOf u n) n (normalized plusZero w) seed (r .stage) .w
-  pub other : second ≡ stageOf plusZero (columnsOf u n) n (normalized plusZero w) seed (s .stage) .w
+  pub one : first ≡ stageOf plusZero (columnsOf u n) n (normalized plusZero w) source (r .stage) .w
+  pub other : second ≡ stageOf plusZero (columnsOf u n) n (normalized plusZero w) source (s .stage) .w
   pub among : Among first second
   pub kept : keeps rule s ≡ true

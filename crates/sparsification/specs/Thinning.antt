@@ -12,6 +12,7 @@ use Rattle.stages.specs.declared.Path.{Path}
 use Rattle.sparsification.specs.Answers.{answerAt}
 use Rattle.sparsification.specs.declared.Answer.{Answer}
 use Rattle.rules.specs.declared.Rule.{Rule}
+use Rattle.draw.specs.declared.SplitMix64.{SplitMix64}
 
 -- the stage at the end of the path, what the path has there, and the path
 abbrev pub answerFor : Path → Answer
@@ -26,9 +27,10 @@ answerFor p =
     }
 
 -- the answer for the stage at which the rule stops, which is written, and a scratch of zeros
-pub record ThinnedFrom (u : ℕ → ℕ → Float) (n : ℕ) (start : List Float) (seed : ℕ) (rule : Rule) (numbers : List Float) (indices : List ℕ)
+pub record ThinnedFrom (u : ℕ → ℕ → Float) (n : ℕ) (start : List Float) (source : SplitMix64) (rule : Rule) (numbers : List Float)
+    (indices : List ℕ)
     (r : Answer) (output' numbers' : List Float) (indices' : List ℕ) : Type 0 where
-  pub answers : r ≡ answerAt u n start seed (stopOf plusZero u n start seed rule)
-  pub writes : output' ≡ stageOf plusZero u n start seed (stopOf plusZero u n start seed rule) .w
+  pub answers : r ≡ answerAt u n start source (stopOf plusZero u n start source rule)
+  pub writes : output' ≡ stageOf plusZero u n start source (stopOf plusZero u n start source rule) .w
   pub floats : numbers' ≡ repeated plusZero (length numbers)
   pub words : indices' ≡ repeated 0 (length indices)

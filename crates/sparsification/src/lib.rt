@@ -1,4 +1,5 @@
 // The thinning: sparsify, sparsify_within, and thin, which takes either's rule in a job.
+use draw::SplitMix64;
 use faults::job_fault;
 use rules::Cap;
 use rules::Rule;
@@ -12,6 +13,7 @@ ghost use mathlib.Core.Path.{_≡_};
 ghost use Prim.Native.Nat.{_≤_};
 ghost use lib.ListN.{length};
 ghost use Rattle.seq.specs.Sums.{plusZero};
+ghost use Rattle.draw.specs.SplitMix.{seeded};
 ghost use Rattle.sparsification.specs.Answers.{refusal, Thinned};
 ghost use Rattle.sparsification.specs.Thinning.{answerFor, ThinnedFrom};
 ghost use Rattle.rules.specs.Rules.{ruleFault};
@@ -24,9 +26,10 @@ ghost use Rattle.weights.specs.Weights.{normalized};
 ghost use Rattle.halve.specs.Handed.{Ready};
 ghost use mathlib.Core.Bool.{true};
 
-// A seed and a rule.
+// A seed, the edition of its draws, 1 or 2, and a rule.
 pub struct Job {
     pub seed: u64,
+    pub edition: u32,
     pub rule: Rule,
 }
 
@@ -78,7 +81,7 @@ fn thin_on(
     n: usize,
     start: &[f64],
     next: &mut [f64],
-    seed: u64,
+    source: SplitMix64,
     rule: Rule,
     output: &mut [f64],
     numbers: &mut [f64],
@@ -86,7 +89,7 @@ fn thin_on(
 ) -> Answer
     requires { ⌜ Ready (now matrix) n (now start) (now numbers) (now indices) × (bounded one (now start) ≡ true)
         × (length (now next) ≡ length (now start)) × (length (now output) ≡ length (now start)) × (ruleFault rule ≡ 0) ⌝ }
-    ensures { λ r. ⌜ ThinnedFrom (columnsOf (now (matrix .entry)) n) n (now (start .entry)) seed rule (now (numbers .entry))
+    ensures { λ r. ⌜ ThinnedFrom (columnsOf (now (matrix .entry)) n) n (now (start .entry)) source rule (now (numbers .entry))
         (now (indices .entry)) r (now (output .exit)) (now (numbers .exit)) (now (indices .exit)) ⌝ }
 {
     copy(&mut output[..], start);
@@ -98,7 +101,7 @@ fn thin_on(
         next,
         &mut numbers[..],
         &mut indices[..],
-        seed,
+        source,
         rule,
     );
     clear(numbers);
@@ -112,7 +115,7 @@ fn thin_sound(
     n: usize,
     weights: &[f64],
     start: &mut [f64],
-    seed: u64,
+    source: SplitMix64,
     rule: Rule,
     output: &mut [f64],
     numbers: &mut [f64],
@@ -120,7 +123,7 @@ fn thin_sound(
 ) -> Answer
     requires { ⌜ Ready (now matrix) n (now weights) (now numbers) (now indices) × (valueFault (now matrix) (now weights) ≡ 0)
         × (length (now start) ≡ length (now weights)) × (length (now output) ≡ length (now weights)) × (ruleFault rule ≡ 0) ⌝ }
-    ensures { λ r. ⌜ ThinnedFrom (columnsOf (now (matrix .entry)) n) n (normalized plusZero (now (weights .entry))) seed rule
+    ensures { λ r. ⌜ ThinnedFrom (columnsOf (now (matrix .entry)) n) n (normalized plusZero (now (weights .entry))) source rule
         (now (numbers .entry)) (now (indices .entry)) r (now (output .exit)) (now (numbers .exit)) (now (indices .exit)) ⌝ }
 {
     let m = weights.len();
@@ -132,7 +135,7 @@ fn thin_sound(
         n,
         &start[..],
         &mut next[..m],
-        seed,
+        source,
         rule,
         output,
         numbers,
@@ -151,12 +154,14 @@ pub fn thin(
     numbers: &mut [f64],
     indices: &mut [u32],
 ) -> Answer
-    ensures { λ r. ⌜ Thinned (job .rule) (job .seed) (now (matrix .entry)) m n (now (weights .entry)) (now (output .entry))
+    ensures { λ r. ⌜ Thinned (job .rule) (seeded (job .seed) (job .edition)) (now (matrix .entry)) m n (now (weights .entry))
+        (now (output .entry))
         (now (numbers .entry)) (now (indices .entry)) r (now (output .exit)) (now (numbers .exit)) (now (indices .exit)) ⌝ }
 {
     let rule = job.rule;
     let number = job_fault(
         rule,
+        job.edition,
         matrix,
         m,
         n,
@@ -174,7 +179,7 @@ pub fn thin(
         n,
         weights,
         &mut start[..m],
-        job.seed,
+        SplitMix64::new(job.seed, job.edition),
         rule,
         output,
         numbers,
@@ -189,12 +194,13 @@ pub fn sparsify(
     n: usize,
     weights: &[f64],
     seed: u64,
+    edition: u32,
     target: usize,
     output: &mut [f64],
     numbers: &mut [f64],
     indices: &mut [u32],
 ) -> Answer
-    ensures { λ r. ⌜ Thinned (Target target) seed (now (matrix .entry)) m n (now (weights .entry)) (now (output .entry))
+    ensures { λ r. ⌜ Thinned (Target target) (seeded seed edition) (now (matrix .entry)) m n (now (weights .entry)) (now (output .entry))
         (now (numbers .entry)) (now (indices .entry)) r (now (output .exit)) (now (numbers .exit)) (now (indices .exit)) ⌝ }
 {
     thin(
@@ -204,6 +210,7 @@ pub fn sparsify(
         weights,
         Job {
             seed,
+            edition,
             rule: Rule::Target(target),
         },
         output,
@@ -219,13 +226,15 @@ pub fn sparsify_within(
     n: usize,
     weights: &[f64],
     seed: u64,
+    edition: u32,
     allowance: f64,
     cap: Cap,
     output: &mut [f64],
     numbers: &mut [f64],
     indices: &mut [u32],
 ) -> Answer
-    ensures { λ r. ⌜ Thinned (Within allowance cap) seed (now (matrix .entry)) m n (now (weights .entry)) (now (output .entry))
+    ensures { λ r. ⌜ Thinned (Within allowance cap) (seeded seed edition) (now (matrix .entry)) m n (now (weights .entry))
+        (now (output .entry))
         (now (numbers .entry)) (now (indices .entry)) r (now (output .exit)) (now (numbers .exit)) (now (indices .exit)) ⌝ }
 {
     thin(
@@ -235,6 +244,7 @@ pub fn sparsify_within(
         weights,
         Job {
             seed,
+            edition,
             rule: Rule::Within { allowance, cap },
         },
         output,

@@ -37,6 +37,7 @@ use Rattle.seq.proofs.Choosing.{first-holds, second-holds}
 use Rattle.stages.proofs.Halting.{Leads, Falls, goes, only, stop-is-first, below-more}
 use Rattle.seq.proofs.Keeping.{count-short}
 use Rattle.stages.proofs.Lengths.{length-pass}
+use Rattle.draw.specs.declared.SplitMix64.{SplitMix64}
 
 -- a stage with room for a pass is before the ninth
 pub eight : (i k : ℕ) → 2 ^ i * k ≤ 256 → 2 ≤ k → suc i ≤ 8
@@ -76,16 +77,16 @@ target-fine t h = rw (ne-eqb t 0 (λ e. omega arith))
 neither-holds : (a b : Bool) → a ≡ false → b ≡ false → (a || b) ≡ false
 neither-holds a b h g = rw (h, g)
 
-module _ (u : ℕ → ℕ → Float) (n : ℕ) (start : List Float) (seed : ℕ) where
+module _ (u : ℕ → ℕ → Float) (n : ℕ) (start : List Float) (source : SplitMix64) where
   -- stage i has been reached, with its weights and its generator, and no stage before it stops
-  pub record OnPath (rule : Rule) (i : ℕ) (w : List Float) (rng : ℕ) : Type 0 where
-    pub there : halvesOf w rng ≡ stageOf plusZero u n start seed i
-    pub before : (j : ℕ) → j < i → stops plusZero u n start seed rule j ≡ false
+  pub record OnPath (rule : Rule) (i : ℕ) (w : List Float) (rng : SplitMix64) : Type 0 where
+    pub there : halvesOf w rng ≡ stageOf plusZero u n start source i
+    pub before : (j : ℕ) → j < i → stops plusZero u n start source rule j ≡ false
     pub near : i ≤ 8
     pub room : 2 ^ i * nonzeros w ≤ 256
     pub long : length w ≡ length start
 
-  pub on-start : length start ≤ 256 → (rule : Rule) → OnPath rule 0 start seed
+  pub on-start : length start ≤ 256 → (rule : Rule) → OnPath rule 0 start source
   unfolding stageOf
   on-start few rule =
       record {
@@ -97,26 +98,26 @@ module _ (u : ℕ → ℕ → Float) (n : ℕ) (start : List Float) (seed : ℕ)
       }
 
   -- the next stage is the pass from there
-  abbrev pub passFrom : List Float → ℕ → Halved
+  abbrev pub passFrom : List Float → SplitMix64 → Halved
   passFrom w rng = passOf plusZero u n (halvesOf w rng)
 
-  module _ {rule : Rule} {i : ℕ} {w : List Float} {rng : ℕ} (on : OnPath rule i w rng) where
-    next-there : passFrom w rng ≡ stageOf plusZero u n start seed (suc i)
+  module _ {rule : Rule} {i : ℕ} {w : List Float} {rng : SplitMix64} (on : OnPath rule i w rng) where
+    next-there : passFrom w rng ≡ stageOf plusZero u n start source (suc i)
     unfolding stageOf
     next-there = ap (passOf plusZero u n) (on .there)
 
-    next-weights : stageOf plusZero u n start seed (suc i) .w ≡ passFrom w rng .w
+    next-weights : stageOf plusZero u n start source (suc i) .w ≡ passFrom w rng .w
     next-weights = ap (λ (h : Halved). h .w) (sym next-there)
 
-    weights-there : w ≡ stageOf plusZero u n start seed i .w
+    weights-there : w ≡ stageOf plusZero u n start source i .w
     weights-there = ap (λ (h : Halved). h .w) (on .there)
 
-    entries-there : entriesAt plusZero u n start seed i ≡ nonzeros w
+    entries-there : entriesAt plusZero u n start source i ≡ nonzeros w
     entries-there = ap nonzeros (sym weights-there)
 
   -- a stage after the first that measures above the allowance and meets the cap ends the job
   abbrev pub closes : Float → Cap → ℕ → Bool
-  closes a c i = ltb 0 i && (above plusZero u n start seed a i && meets c (entriesAt plusZero u n start seed i))
+  closes a c i = ltb 0 i && (above plusZero u n start source a i && meets c (entriesAt plusZero u n start source i))
 
   pub opens : (a : Float) (c : Cap) → closes a c 0 ≡ false
   opens a c = refl
@@ -125,16 +126,16 @@ module _ (u : ℕ → ℕ → Float) (n : ℕ) (start : List Float) (seed : ℕ)
 
   -- what stage i has
   abbrev movedAt : ℕ → Float
-  movedAt i = movedBy u n start (stageOf plusZero u n start seed i)
+  movedAt i = movedBy u n start (stageOf plusZero u n start source i)
 
   -- the stages up to i are noted
   pub record Written (i : ℕ) (nonzeros : List ℕ) (change : List Float) : Type 0 where
-    pub counts : Filled (entriesAt plusZero u n start seed) (repeated 0 9) (i + 1) nonzeros
+    pub counts : Filled (entriesAt plusZero u n start source) (repeated 0 9) (i + 1) nonzeros
     pub moves : Filled movedAt (repeated plusZero 9) (i + 1) change
 
-  module _ {rule : Rule} {i : ℕ} {w : List Float} {rng : ℕ} (on : OnPath rule i w rng) {k : ℕ} {x : Float}
+  module _ {rule : Rule} {i : ℕ} {w : List Float} {rng : SplitMix64} (on : OnPath rule i w rng) {k : ℕ} {x : Float}
       (counted : k ≡ nonzeros w) (measured : x ≡ maxChange u (length start) n start w) where
-    count-is : k ≡ entriesAt plusZero u n start seed i
+    count-is : k ≡ entriesAt plusZero u n start source i
     count-is = counted ∙ sym (entries-there on)
 
     move-is : x ≡ movedAt i
@@ -143,7 +144,7 @@ module _ (u : ℕ → ℕ → Float) (n : ℕ) (start : List Float) (seed : ℕ)
     room-at : {A : Type 0} (y : A) → i < length (repeated y 9)
     room-at y = rw (length-tab (λ j. y) 9) (omega (arith, on .near))
 
-    pub note : {ns : List ℕ} {cs : List Float} → Filled (entriesAt plusZero u n start seed) (repeated 0 9) i ns → Filled movedAt (repeated plusZero 9) i cs
+    pub note : {ns : List ℕ} {cs : List Float} → Filled (entriesAt plusZero u n start source) (repeated 0 9) i ns → Filled movedAt (repeated plusZero 9) i cs
         → Written i (set ns i k) (set cs i x)
     note a b = record { counts = turn a (room-at 0) count-is; moves = turn b (room-at plusZero) move-is }
 
@@ -153,32 +154,32 @@ module _ (u : ℕ → ℕ → Float) (n : ℕ) (start : List Float) (seed : ℕ)
 
   -- it is the path of the definition
   pub noted : {i : ℕ} {ns : List ℕ} {cs : List Float} → i ≤ 8 → Written i ns cs → (r : Path) → r .stage ≡ i → r .nonzeros ≡ ns → r .change
-      ≡ cs → Noted u n start seed i r
+      ≡ cs → Noted u n start source i r
   noted {i} near p r s a b =
       record {
         near = near;
         stage = s;
-        nonzeros = a ∙ p .counts .is ∙ zeros-after 0 (entriesAt plusZero u n start seed) i near;
+        nonzeros = a ∙ p .counts .is ∙ zeros-after 0 (entriesAt plusZero u n start source) i near;
         change = b ∙ p .moves .is ∙ zeros-after plusZero movedAt i near;
       }
 
-  module _ (falls : Falls plusZero u n start seed) {rule : Rule} {i : ℕ} {w : List Float} {rng : ℕ}
+  module _ (falls : Falls plusZero u n start source) {rule : Rule} {i : ℕ} {w : List Float} {rng : SplitMix64}
       (accepted : ruleFault rule ≡ 0) (on : OnPath rule i w rng) where
     -- one more stage
-    module _ {w' : List Float} {rng' : ℕ} (goes-on : stops plusZero u n start seed rule i ≡ false) (pass : halvesOf w' rng' ≡ passFrom w rng) where
-      below : (j : ℕ) → j < suc i → stops plusZero u n start seed rule j ≡ false
-      below = below-more plusZero u n start seed rule i (on .before) goes-on
+    module _ {w' : List Float} {rng' : SplitMix64} (goes-on : stops plusZero u n start source rule i ≡ false) (pass : halvesOf w' rng' ≡ passFrom w rng) where
+      below : (j : ℕ) → j < suc i → stops plusZero u n start source rule j ≡ false
+      below = below-more plusZero u n start source rule i (on .before) goes-on
 
-      is-next : halvesOf w' rng' ≡ stageOf plusZero u n start seed (suc i)
+      is-next : halvesOf w' rng' ≡ stageOf plusZero u n start source (suc i)
       is-next = pass ∙ next-there on
 
       pub some : 2 ≤ nonzeros w
-      some = omega (arith, goes plusZero u n start seed rule i accepted goes-on, entries-there on)
+      some = omega (arith, goes plusZero u n start source rule i accepted goes-on, entries-there on)
 
       half : 2 * nonzeros w' ≤ nonzeros w
       half =
-          let after : nonzeros w' ≡ entriesAt plusZero u n start seed (suc i) = ap (λ (h : Halved). nonzeros (h .w)) is-next in
-          omega (arith, falls i (λ j l. goes plusZero u n start seed rule j accepted (below j l)), entries-there on, after)
+          let after : nonzeros w' ≡ entriesAt plusZero u n start source (suc i) = ap (λ (h : Halved). nonzeros (h .w)) is-next in
+          omega (arith, falls i (λ j l. goes plusZero u n start source rule j accepted (below j l)), entries-there on, after)
 
       pub fewer : nonzeros w' < nonzeros w
       fewer = omega (arith, half, some)
@@ -195,28 +196,28 @@ module _ (u : ℕ → ℕ → Float) (n : ℕ) (start : List Float) (seed : ℕ)
           })
 
     -- the ways out: the stage is returned
-    module _ {r : Path} (path : Noted u n start seed i r) where
-      ended : stops plusZero u n start seed rule i ≡ true → Followed u n start seed rule r w
+    module _ {r : Path} (path : Noted u n start source i r) where
+      ended : stops plusZero u n start source rule i ≡ true → Followed u n start source rule r w
       ended h =
-          let stop : stopOf plusZero u n start seed rule ≡ i =
-          only plusZero u n start seed (stop-is-first plusZero u n start seed falls rule accepted) (record { there = h; before = on .before }) in
+          let stop : stopOf plusZero u n start source rule ≡ i =
+          only plusZero u n start source (stop-is-first plusZero u n start source falls rule accepted) (record { there = h; before = on .before }) in
           record { path = rw stop path; weights = rw stop (weights-there on) }
 
-      pub rested : rests plusZero u n start seed rule i ≡ true → Followed u n start seed rule r w
-      rested h = ended (first-holds (rests plusZero u n start seed rule i) _ h)
+      pub rested : rests plusZero u n start source rule i ≡ true → Followed u n start source rule r w
+      rested h = ended (first-holds (rests plusZero u n start source rule i) _ h)
 
-      pub exceeded : exceeds plusZero u n start seed rule i ≡ true → Followed u n start seed rule r w
-      exceeded h = ended (second-holds (rests plusZero u n start seed rule i) _ h)
+      pub exceeded : exceeds plusZero u n start source rule i ≡ true → Followed u n start source rule r w
+      exceeded h = ended (second-holds (rests plusZero u n start source rule i) _ h)
 
   -- the job with a target
-  module _ (falls : Falls plusZero u n start seed) {t i : ℕ} {w : List Float} {rng : ℕ} (positive : 0 < t) (on : OnPath (Target t) i w rng) where
-    pub target-met : nonzeros w ≤ t → {r : Path} → Noted u n start seed i r → Followed u n start seed (Target t) r w
-    target-met h path = rested falls (target-fine t positive) on path (le-leb (entriesAt plusZero u n start seed i) t (rw (entries-there on) h))
+  module _ (falls : Falls plusZero u n start source) {t i : ℕ} {w : List Float} {rng : SplitMix64} (positive : 0 < t) (on : OnPath (Target t) i w rng) where
+    pub target-met : nonzeros w ≤ t → {r : Path} → Noted u n start source i r → Followed u n start source (Target t) r w
+    target-met h path = rested falls (target-fine t positive) on path (le-leb (entriesAt plusZero u n start source i) t (rw (entries-there on) h))
 
-    module _ {w' : List Float} {rng' : ℕ} (more : t < nonzeros w) (pass : halvesOf w' rng' ≡ passFrom w rng) where
-      missed : stops plusZero u n start seed (Target t) i ≡ false
-      missed = neither-holds (rests plusZero u n start seed (Target t) i) false
-          (lt-leb (entriesAt plusZero u n start seed i) t (rw (entries-there on) more)) refl
+    module _ {w' : List Float} {rng' : SplitMix64} (more : t < nonzeros w) (pass : halvesOf w' rng' ≡ passFrom w rng) where
+      missed : stops plusZero u n start source (Target t) i ≡ false
+      missed = neither-holds (rests plusZero u n start source (Target t) i) false
+          (lt-leb (entriesAt plusZero u n start source i) t (rw (entries-there on) more)) refl
 
       pub target-next : OnPath (Target t) (i + 1) w' rng'
       target-next = next-on falls (target-fine t positive) on missed pass
@@ -225,28 +226,28 @@ module _ (u : ℕ → ℕ → Float) (n : ℕ) (start : List Float) (seed : ℕ)
       target-fewer = fewer falls (target-fine t positive) on missed pass
 
   -- the job with an allowance
-  module _ (falls : Falls plusZero u n start seed) {a : Float} {c : Cap} {i : ℕ} {w : List Float} {rng : ℕ}
+  module _ (falls : Falls plusZero u n start source) {a : Float} {c : Cap} {i : ℕ} {w : List Float} {rng : SplitMix64}
       (accepted : ruleFault (Within a c) ≡ 0) (on : OnPath (Within a c) i w rng) where
-    pub allowance-met : nonzeros w ≤ 1 → {r : Path} → Noted u n start seed i r → Followed u n start seed (Within a c) r w
+    pub allowance-met : nonzeros w ≤ 1 → {r : Path} → Noted u n start source i r → Followed u n start source (Within a c) r w
     allowance-met h path =
         rested falls accepted on path
-        (first-holds (leb (entriesAt plusZero u n start seed i) 1) _ (le-leb (entriesAt plusZero u n start seed i) 1 (rw (entries-there on) h)))
+        (first-holds (leb (entriesAt plusZero u n start source i) 1) _ (le-leb (entriesAt plusZero u n start source i) 1 (rw (entries-there on) h)))
 
-    after-is : above plusZero u n start seed a (suc i) ≡ aboveAfter u n start a w rng
+    after-is : above plusZero u n start source a (suc i) ≡ aboveAfter u n start a w rng
     after-is = ap (λ (x : List Float). not (le (maxChange u (length start) n start x) a)) (next-weights on)
 
-    exceeds-is : exceeds plusZero u n start seed (Within a c) i ≡ (aboveAfter u n start a w rng && meets c (nonzeros w))
+    exceeds-is : exceeds plusZero u n start source (Within a c) i ≡ (aboveAfter u n start a w rng && meets c (nonzeros w))
     exceeds-is =
-        and-comm (meets c (entriesAt plusZero u n start seed i)) (above plusZero u n start seed a (suc i))
-        ∙ ap (λ (t : Bool). t && meets c (entriesAt plusZero u n start seed i)) after-is
+        and-comm (meets c (entriesAt plusZero u n start source i)) (above plusZero u n start source a (suc i))
+        ∙ ap (λ (t : Bool). t && meets c (entriesAt plusZero u n start source i)) after-is
         ∙ ap (λ (k : ℕ). aboveAfter u n start a w rng && meets c k) (entries-there on)
 
     module _ {r : Tried} {w' : List Float} (goes-on : closes a c i ≡ false) (more : 1 < nonzeros w) (tried : TriedOnce u n start a c w rng r w') where
-      unrested : rests plusZero u n start seed (Within a c) i ≡ false
-      unrested = rw (lt-leb (entriesAt plusZero u n start seed i) 1 (rw (entries-there on) more)) goes-on
+      unrested : rests plusZero u n start source (Within a c) i ≡ false
+      unrested = rw (lt-leb (entriesAt plusZero u n start source i) 1 (rw (entries-there on) more)) goes-on
 
       -- the pass was not taken
-      pub allowance-left : r .taken ≡ false → {p : Path} → Noted u n start seed i p → Followed u n start seed (Within a c) p w'
+      pub allowance-left : r .taken ≡ false → {p : Path} → Noted u n start source i p → Followed u n start source (Within a c) p w'
       allowance-left t path =
           let stays : w' ≡ w = tried .weights ∙ ap (λ (b : Bool). pick b (passFrom w rng .w) w) t in
           rw stays
@@ -257,15 +258,15 @@ module _ (u : ℕ → ℕ → Float) (n : ℕ) (start : List Float) (seed : ℕ)
         moves : w' ≡ passFrom w rng .w
         moves = tried .weights ∙ ap (λ (b : Bool). pick b (passFrom w rng .w) w) taken
 
-        is-pass : halvesOf w' (r .rng .state) ≡ passFrom w rng
+        is-pass : halvesOf w' (r .rng) ≡ passFrom w rng
         is-pass = λ k. halvesOf (moves k) (tried .draws k)
 
-        unstopped : stops plusZero u n start seed (Within a c) i ≡ false
+        unstopped : stops plusZero u n start source (Within a c) i ≡ false
         unstopped =
-            neither-holds (rests plusZero u n start seed (Within a c) i) (exceeds plusZero u n start seed (Within a c) i) unrested
+            neither-holds (rests plusZero u n start source (Within a c) i) (exceeds plusZero u n start source (Within a c) i) unrested
             (exceeds-is ∙ not-true (aboveAfter u n start a w rng && meets c (nonzeros w)) (sym (tried .taken) ∙ taken))
 
-        pub allowance-on : OnPath (Within a c) (i + 1) w' (r .rng .state)
+        pub allowance-on : OnPath (Within a c) (i + 1) w' (r .rng)
         allowance-on = next-on falls accepted on unstopped is-pass
 
         pub allowance-fewer : nonzeros w' < nonzeros w
@@ -274,7 +275,7 @@ module _ (u : ℕ → ℕ → Float) (n : ℕ) (start : List Float) (seed : ℕ)
         closes-is : closes a c (i + 1) ≡ (aboveAfter u n start a w rng && meets c (nonzeros w'))
         closes-is =
             rw (add-one i, lt-ltb 0 (suc i) (omega arith))
-            (ap (λ (t : Bool). t && meets c (entriesAt plusZero u n start seed (suc i))) after-is
+            (ap (λ (t : Bool). t && meets c (entriesAt plusZero u n start source (suc i))) after-is
             ∙ ap (λ (k : ℕ). aboveAfter u n start a w rng && meets c k) (ap nonzeros (next-weights on ∙ sym moves)))
 
         more-is : r .more ≡ not (aboveAfter u n start a w rng && meets c (nonzeros w'))
@@ -286,22 +287,22 @@ module _ (u : ℕ → ℕ → Float) (n : ℕ) (start : List Float) (seed : ℕ)
         pub measured : r .change ≡ maxChange u (length start) n start w'
         measured = tried .change ∙ ap (maxChange u (length start) n start) (sym moves)
 
-        pub allowance-last : r .more ≡ false → {p : Path} → Noted u n start seed (i + 1) p → Followed u n start seed (Within a c) p w'
+        pub allowance-last : r .more ≡ false → {p : Path} → Noted u n start source (i + 1) p → Followed u n start source (Within a c) p w'
         allowance-last m path =
             rested falls accepted allowance-on path
-            (second-holds (leb (entriesAt plusZero u n start seed (i + 1)) 1) _
+            (second-holds (leb (entriesAt plusZero u n start source (i + 1)) 1) _
             (closes-is ∙ not-false (aboveAfter u n start a w rng && meets c (nonzeros w')) (sym more-is ∙ m)))
 
   -- ---- how many stages there are
 
-  module _ (falls : Falls plusZero u n start seed) (few : length start ≤ 256) where
+  module _ (falls : Falls plusZero u n start source) (few : length start ≤ 256) where
     -- a stage that a job comes to has room for its nonzeros, each pass leaving at most half
-    room-at-stage : (i : ℕ) → Leads plusZero u n start seed i → 2 ^ i * entriesAt plusZero u n start seed i ≤ 256
+    room-at-stage : (i : ℕ) → Leads plusZero u n start source i → 2 ^ i * entriesAt plusZero u n start source i ≤ 256
     room-at-stage zero g = unfold stageOf in omega (arith, count-short (isOn start) (length start))
     room-at-stage (suc i) g =
-        halved i (entriesAt plusZero u n start seed i) (entriesAt plusZero u n start seed (suc i)) (falls i g) (room-at-stage i (λ j l. g j (omega arith)))
+        halved i (entriesAt plusZero u n start source i) (entriesAt plusZero u n start source (suc i)) (falls i g) (room-at-stage i (λ j l. g j (omega arith)))
 
     -- so from 256 weights there are at most nine stages
-    pub nine-stages : (i : ℕ) → Leads plusZero u n start seed i → i ≤ 8
+    pub nine-stages : (i : ℕ) → Leads plusZero u n start source i → i ≤ 8
     nine-stages zero g = omega arith
-    nine-stages (suc i) g = eight i (entriesAt plusZero u n start seed i) (room-at-stage i (λ j l. g j (omega arith))) (g i (omega arith))
+    nine-stages (suc i) g = eight i (entriesAt plusZero u n start source i) (room-at-stage i (λ j l. g j (omega arith))) (g i (omega arith))

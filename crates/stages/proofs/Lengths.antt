@@ -15,6 +15,7 @@ use Rattle.halve.specs.Halve.{Halved, scaledColumns, halvedOnce}
 use Rattle.doubling.specs.Doubling.{remaining, sigmaOf, halvedTo}
 use Rattle.halving.specs.Halving.{halvedTwice, passOf}
 use Rattle.stages.specs.Stages.{stageOf}
+use Rattle.draw.specs.declared.SplitMix64.{SplitMix64}
 
 pub length-normalized : (z : Float) (w : List Float) → length (normalized z w) ≡ length w
 unfolding normalized
@@ -44,7 +45,8 @@ length-pass z u n h =
     ∙ length-once z u n (omegaOf (h .w)) (restOf (h .w)) (halvedOnce z u n (omegaOf (h .w)) (restOf (h .w)) h)
     ∙ length-once z u n (omegaOf (h .w)) (restOf (h .w)) h
 
-pub length-stage : (z : Float) (u : ℕ → ℕ → Float) (n : ℕ) (start : List Float) (seed i : ℕ) → length (stageOf z u n start seed i .w) ≡ length start
+pub length-stage : (z : Float) (u : ℕ → ℕ → Float) (n : ℕ) (start : List Float) (source : SplitMix64) (i : ℕ)
+    → length (stageOf z u n start source i .w) ≡ length start
 unfolding stageOf
-length-stage z u n start seed zero = refl
-length-stage z u n start seed (suc i) = length-pass z u n (stageOf z u n start seed i) ∙ length-stage z u n start seed i
+length-stage z u n start source zero = refl
+length-stage z u n start source (suc i) = length-pass z u n (stageOf z u n start source i) ∙ length-stage z u n start source i

@@ -35,6 +35,7 @@ use Rattle.stages.specs.Among.{Among}
 use Rattle.seq.proofs.Choosing.{both, holds, shown}
 use Rattle.stages.proofs.Halting.{Leads, Falls}
 use Rattle.stages.proofs.Lengths.{length-stage, length-normalized}
+use Rattle.draw.specs.declared.SplitMix64.{SplitMix64}
 
 -- what the laws of a pass say of signs, in the words of the tests
 among-signs : (v w : List Float) → ((j : ℕ) → j < length v → isOn w j ≡ true → SameSign (at v j) (at w j)) → Among v w
@@ -45,32 +46,33 @@ among-signs v w each =
       under = λ j l o. ap (lt (at w j)) nought-is ∙ each j l o .under-too ∙ sym (ap (lt (at v j)) nought-is);
     }
 
-module _ (u : ℕ → ℕ → Float) (n : ℕ) (start : List Float) (seed : ℕ) (normal : Normal binary64 (length start) (at start)) (few : length start ≤ 256) where
+module _ (u : ℕ → ℕ → Float) (n : ℕ) (start : List Float) (source : SplitMix64) (normal : Normal binary64 (length start) (at start))
+    (few : length start ≤ 256) where
   abbrev stage : ℕ → Halved
-  stage = stageOf plusZero u n start seed
+  stage = stageOf plusZero u n start source
 
   few-at : (i : ℕ) → length (stage i .w) ≤ 256
-  few-at i = rw (length-stage plusZero u n start seed i) few
+  few-at i = rw (length-stage plusZero u n start source i) few
 
   -- every stage that a job may come to is normalised
-  pub normal-stage : (i : ℕ) → Leads plusZero u n start seed i → Normal binary64 (length (stage i .w)) (at (stage i .w))
+  pub normal-stage : (i : ℕ) → Leads plusZero u n start source i → Normal binary64 (length (stage i .w)) (at (stage i .w))
   unfolding stageOf
   normal-stage zero g = normal
   normal-stage (suc i) g =
-      rw (length-stage plusZero u n start seed (suc i) ∙ sym (length-stage plusZero u n start seed i))
+      rw (length-stage plusZero u n start source (suc i) ∙ sym (length-stage plusZero u n start source i))
       (pass-normal u n (stage i) (g i (omega arith)) (normal-stage i (λ j l. g j (omega arith))) (few-at i))
 
   -- so what the pass from it divides by is above 0 and finite
-  pub stage-sound : (i : ℕ) → Leads plusZero u n start seed (suc i) → sound (sum plusZero u n (stage i)) ≡ true
+  pub stage-sound : (i : ℕ) → Leads plusZero u n start source (suc i) → sound (sum plusZero u n (stage i)) ≡ true
   stage-sound i g = sum-sound u n (stage i) (g i (omega arith)) (normal-stage i (λ j l. g j (omega arith))) (few-at i)
 
   -- and it leaves at most half
-  pub falling : Falls plusZero u n start seed
+  pub falling : Falls plusZero u n start source
   unfolding stageOf
   falling i g = pass-half plusZero u n (stage i) (g i (omega arith)) (stage-sound i g)
 
   -- signs are kept
-  pub signed-stage : (i : ℕ) → Leads plusZero u n start seed (suc i) → Among (stage i .w) (stage (suc i) .w)
+  pub signed-stage : (i : ℕ) → Leads plusZero u n start source (suc i) → Among (stage i .w) (stage (suc i) .w)
   unfolding stageOf
   signed-stage i g =
       let each : (j : ℕ) → j < length (stage i .w) → isOn (stage (suc i) .w) j ≡ true → SameSign (at (stage i .w) j) (at (stage (suc i) .w) j) =

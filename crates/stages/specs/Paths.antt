@@ -8,15 +8,17 @@ use Rattle.stages.specs.Stages.{stageOf, pathNonzeros, pathChange}
 use Rattle.stages.specs.Stopping.{stopOf}
 use Rattle.stages.specs.declared.Path.{Path}
 use Rattle.rules.specs.declared.Rule.{Rule}
+use Rattle.draw.specs.declared.SplitMix64.{SplitMix64}
 
 -- the path to the stage k
-pub record Noted (u : ℕ → ℕ → Float) (n : ℕ) (start : List Float) (seed k : ℕ) (r : Path) : Type 0 where
+pub record Noted (u : ℕ → ℕ → Float) (n : ℕ) (start : List Float) (source : SplitMix64) (k : ℕ) (r : Path) : Type 0 where
   pub near : k ≤ 8
   pub stage : r .stage ≡ k
-  pub nonzeros : r .nonzeros ≡ pathNonzeros plusZero u n start seed k
-  pub change : r .change ≡ pathChange plusZero u n start seed k
+  pub nonzeros : r .nonzeros ≡ pathNonzeros plusZero u n start source k
+  pub change : r .change ≡ pathChange plusZero u n start source k
 
 -- the stage that was reached is the one at which the rule stops, and w holds it
-pub record Followed (u : ℕ → ℕ → Float) (n : ℕ) (start : List Float) (seed : ℕ) (rule : Rule) (r : Path) (w : List Float) : Type 0 where
-  pub path : Noted u n start seed (stopOf plusZero u n start seed rule) r
-  pub weights : w ≡ stageOf plusZero u n start seed (stopOf plusZero u n start seed rule) .w
+pub record Followed (u : ℕ → ℕ → Float) (n : ℕ) (start : List Float) (source : SplitMix64) (rule : Rule)
+    (r : Path) (w : List Float) : Type 0 where
+  pub path : Noted u n start source (stopOf plusZero u n start source rule) r
+  pub weights : w ≡ stageOf plusZero u n start source (stopOf plusZero u n start source rule) .w

@@ -12,11 +12,12 @@ use Rattle.weights.specs.Weights.{nonzeros}
 use Rattle.halve.specs.Halve.{Halved}
 use Rattle.halving.specs.Halving.{passOf}
 use Rattle.margins.specs.Margins.{maxChange}
+use Rattle.draw.specs.declared.SplitMix64.{SplitMix64}
 
--- stage i from the normalized weights and a seed: weights, and the generator
-unfoldable pub stageOf : Float → (ℕ → ℕ → Float) → ℕ → List Float → ℕ → ℕ → Halved
-stageOf z u n start seed zero = record { w = start; rng = seed }
-stageOf z u n start seed (suc i) = passOf z u n (stageOf z u n start seed i)
+-- stage i from the normalized weights and the generator that a job starts with: weights, and the generator after them
+unfoldable pub stageOf : Float → (ℕ → ℕ → Float) → ℕ → List Float → SplitMix64 → ℕ → Halved
+stageOf z u n start source zero = record { w = start; rng = source }
+stageOf z u n start source (suc i) = passOf z u n (stageOf z u n start source i)
 
 -- how far the margins have moved from the normalized weights, at the worst row
 abbrev pub movedBy : (ℕ → ℕ → Float) → ℕ → List Float → Halved → Float
@@ -27,9 +28,9 @@ abbrev pub pathOf : {A : Type 0} → A → (ℕ → A) → ℕ → List A
 pathOf none has k = tabulate has (suc k) ++ repeated none (8 - k)
 
 -- the nonzeros of the stages from 0 to k
-abbrev pub pathNonzeros : Float → (ℕ → ℕ → Float) → ℕ → List Float → ℕ → ℕ → List ℕ
-pathNonzeros z u n start seed k = pathOf 0 (λ i. nonzeros (stageOf z u n start seed i .w)) k
+abbrev pub pathNonzeros : Float → (ℕ → ℕ → Float) → ℕ → List Float → SplitMix64 → ℕ → List ℕ
+pathNonzeros z u n start source k = pathOf 0 (λ i. nonzeros (stageOf z u n start source i .w)) k
 
 -- and how far each has moved
-abbrev pub pathChange : Float → (ℕ → ℕ → Float) → ℕ → List Float → ℕ → ℕ → List Float
-pathChange z u n start seed k = pathOf plusZero (λ i. movedBy u n start (stageOf z u n start seed i)) k
+abbrev pub pathChange : Float → (ℕ → ℕ → Float) → ℕ → List Float → SplitMix64 → ℕ → List Float
+pathChange z u n start source k = pathOf plusZero (λ i. movedBy u n start (stageOf z u n start source i)) k

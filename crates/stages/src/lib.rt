@@ -33,14 +33,14 @@ fn to_target(
     w: &mut [f64],
     numbers: &mut [f64],
     indices: &mut [u32],
-    seed: u64,
+    source: SplitMix64,
     target: usize,
 ) -> Path
     requires { ⌜ Ready (now matrix) n (now w) (now numbers) (now indices) × (bounded one (now w) ≡ true) × (now w ≡ now start)
         × (0 < target) ⌝ }
-    ensures { λ r. ⌜ Followed (columnsOf (now (matrix .entry)) n) n (now (w .entry)) seed (Target target) r (now (w .exit)) ⌝ }
+    ensures { λ r. ⌜ Followed (columnsOf (now (matrix .entry)) n) n (now (w .entry)) source (Target target) r (now (w .exit)) ⌝ }
 {
-    let mut rng = SplitMix64::new(seed);
+    let mut rng = source;
     let mut stage = 0usize;
     let mut nonzeros = [0u64; 9];
     let mut change = [0.0f64; 9];
@@ -78,15 +78,15 @@ fn to_allowance(
     next: &mut [f64],
     numbers: &mut [f64],
     indices: &mut [u32],
-    seed: u64,
+    source: SplitMix64,
     allowance: f64,
     cap: Cap,
 ) -> Path
     requires { ⌜ Ready (now matrix) n (now w) (now numbers) (now indices) × (bounded one (now w) ≡ true) × (now w ≡ now start)
         × (length (now next) ≡ length (now w)) × (ruleFault (Within allowance cap) ≡ 0) ⌝ }
-    ensures { λ r. ⌜ Followed (columnsOf (now (matrix .entry)) n) n (now (w .entry)) seed (Within allowance cap) r (now (w .exit)) ⌝ }
+    ensures { λ r. ⌜ Followed (columnsOf (now (matrix .entry)) n) n (now (w .entry)) source (Within allowance cap) r (now (w .exit)) ⌝ }
 {
-    let mut rng = SplitMix64::new(seed);
+    let mut rng = source;
     let mut stage = 0usize;
     let mut nonzeros = [0u64; 9];
     let mut change = [0.0f64; 9];
@@ -136,15 +136,15 @@ pub fn follow(
     next: &mut [f64],
     numbers: &mut [f64],
     indices: &mut [u32],
-    seed: u64,
+    source: SplitMix64,
     rule: Rule,
 ) -> Path
     requires { ⌜ Ready (now matrix) n (now w) (now numbers) (now indices) × (bounded one (now w) ≡ true) × (now w ≡ now start)
         × (length (now next) ≡ length (now w)) × (ruleFault rule ≡ 0) ⌝ }
-    ensures { λ r. ⌜ Followed (columnsOf (now (matrix .entry)) n) n (now (w .entry)) seed rule r (now (w .exit)) ⌝ }
+    ensures { λ r. ⌜ Followed (columnsOf (now (matrix .entry)) n) n (now (w .entry)) source rule r (now (w .exit)) ⌝ }
 {
     match rule {
-        Rule::Target(t) => to_target(matrix, n, start, w, numbers, indices, seed, t),
+        Rule::Target(t) => to_target(matrix, n, start, w, numbers, indices, source, t),
         Rule::Within { allowance, cap } => to_allowance(
             matrix,
             n,
@@ -153,7 +153,7 @@ pub fn follow(
             next,
             numbers,
             indices,
-            seed,
+            source,
             allowance,
             cap,
         ),

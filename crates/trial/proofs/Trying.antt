@@ -16,13 +16,14 @@ use Rattle.rules.specs.Rules.{meets}
 use Rattle.trial.specs.Trial.{TriedOnce, changeAfter, aboveAfter}
 use Rattle.rules.specs.declared.Cap.{Cap}
 use Rattle.trial.specs.declared.Tried.{Tried}
+use Rattle.draw.specs.declared.SplitMix64.{SplitMix64}
 
 -- the matrix of a pass is one that a change is measured over
 pub lent-of : {u : List Float} {n : ℕ} {w numbers : List Float} {indices : List ℕ} (start : List Float) → Ready u n w numbers indices
     → length start ≡ length w → Lent u (length start) n
 lent-of start r e = record { whole = rw e (r .whole); few = rw e (r .few); short = r .short }
 
-module _ (u : ℕ → ℕ → Float) (n : ℕ) (start : List Float) (a : Float) (cap : Cap) (w : List Float) (rng : ℕ) {next v : List Float} {draws : ℕ}
+module _ (u : ℕ → ℕ → Float) (n : ℕ) (start : List Float) (a : Float) (cap : Cap) (w : List Float) (rng : SplitMix64) {next v : List Float} {draws : SplitMix64}
     (copied : next ≡ w) (pass : halvesOf v draws ≡ passOf plusZero u n (halvesOf next rng)) where
   same-pass : halvesOf v draws ≡ passOf plusZero u n (halvesOf w rng)
   same-pass = pass ∙ ap (λ (x : List Float). passOf plusZero u n (halvesOf x rng)) copied
@@ -40,7 +41,7 @@ module _ (u : ℕ → ℕ → Float) (n : ℕ) (start : List Float) (a : Float) 
     after-is : aboveAfter u n start a w rng ≡ not (le x a)
     after-is = ap (λ (y : Float). not (le y a)) (sym change-is)
 
-    pub left-tried : (not (le x a) && meets cap (nonzeros w)) ≡ true → (r : Tried) → r .rng .state ≡ draws → r .change ≡ x → r .taken ≡ false
+    pub left-tried : (not (le x a) && meets cap (nonzeros w)) ≡ true → (r : Tried) → r .rng ≡ draws → r .change ≡ x → r .taken ≡ false
         → r .more ≡ false → TriedOnce u n start a cap w rng r w
     left-tried ends r s d t m =
         record {
@@ -51,7 +52,7 @@ module _ (u : ℕ → ℕ → Float) (n : ℕ) (start : List Float) (a : Float) 
           more = m ∙ sym (rw t);
         }
 
-    pub taken-tried : (not (le x a) && meets cap (nonzeros w)) ≡ false → (w' : List Float) → w' ≡ v → (r : Tried) → r .rng .state ≡ draws
+    pub taken-tried : (not (le x a) && meets cap (nonzeros w)) ≡ false → (w' : List Float) → w' ≡ v → (r : Tried) → r .rng ≡ draws
         → r .change ≡ x → r .taken ≡ true → r .more ≡ not (not (le x a) && meets cap (nonzeros w')) → TriedOnce u n start a cap w rng r w'
     taken-tried goes w' e r s d t m =
         record {

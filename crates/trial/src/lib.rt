@@ -51,7 +51,7 @@ pub fn try_pass(
     requires { ⌜ Ready (now matrix) n (now w) (now numbers) (now indices) × (length (now start) ≡ length (now w))
         × (length (now next) ≡ length (now w)) × (2 ≤ nonzeros (now w)) ⌝ }
     ensures { λ r. ⌜ TriedOnce (columnsOf (now (matrix .entry)) n) n (now (start .entry)) allowance cap
-        (now (w .entry)) (rng .state) r (now (w .exit)) ⌝ }
+        (now (w .entry)) rng r (now (w .exit)) ⌝ }
 {
     copy(&mut next[..], &w[..]);
     let after = halving_pass(matrix, n, &mut next[..], numbers, indices, rng);

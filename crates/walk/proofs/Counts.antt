@@ -17,6 +17,7 @@ use Rattle.direction.specs.Step.{reachTo}
 use Rattle.freeze.specs.Freeze.{Walk, freezes, frozenAt, freezeTo}
 use Rattle.walk.specs.Walk.{Stepped, drew, advanced, steppedAlong, stepOf, Course, further, ended, left, courseFrom, courseOf}
 use Rattle.walk.proofs.Ending.{step-sound, or-false}
+use Rattle.draw.specs.declared.SplitMix64.{SplitMix64}
 
 -- what each turn of a loop keeps holds where it ends
 pub run-keeps : {S : Type 0} (P : S → Type 0) (done : S → Bool) (next : S → S) → ((s : S) → done s ≡ false → P s → P (next s))
@@ -30,7 +31,7 @@ run-keeps P done next h (suc fuel) s p = go (done s) refl (run-keeps P done next
     go false e r = r (h s e p)
 
 -- draws after draws
-pub draws-more : (rng j k : ℕ) → afterDraws (afterDraws rng j) k ≡ afterDraws rng (k + j)
+pub draws-more : (rng : SplitMix64) (j k : ℕ) → afterDraws (afterDraws rng j) k ≡ afterDraws rng (k + j)
 unfolding afterDraws
 draws-more rng j zero = ap (afterDraws rng) (let q : j ≡ 0 + j = omega arith in q)
 draws-more rng j (suc k) =
@@ -49,7 +50,7 @@ module _ (z : Float) (a : ℕ → ℕ → Float) (l n : ℕ) where
       go true h = h
       go false h = h
 
-  pick-draws : (t : Bool) (s o : Stepped) (rng : ℕ) → s .walk .rng ≡ rng → o .walk .rng ≡ rng → pick t s o .walk .rng ≡ rng
+  pick-draws : (t : Bool) (s o : Stepped) (rng : SplitMix64) → s .walk .rng ≡ rng → o .walk .rng ≡ rng → pick t s o .walk .rng ≡ rng
   pick-draws true s o rng p q = p
   pick-draws false s o rng p q = q
 
@@ -81,7 +82,7 @@ module _ (z : Float) (a : ℕ → ℕ → Float) (l n : ℕ) where
       turn : (c : Course) → ended l c ≡ false → c .walk .rng ≡ afterDraws (w .rng) (c .directions * l)
           → further z a l n c .walk .rng ≡ afterDraws (w .rng) (suc (c .directions) * l)
       turn c e h =
-          step-draws (c .walk) ∙ ap (λ (rng : ℕ). afterDraws rng l) h ∙ draws-more (w .rng) (c .directions * l) l
+          step-draws (c .walk) ∙ ap (λ (rng : SplitMix64). afterDraws rng l) h ∙ draws-more (w .rng) (c .directions * l) l
           ∙ ap (afterDraws (w .rng)) (let q : l + c .directions * l ≡ suc (c .directions) * l = omega arith in q)
 
   -- ---- how many they are

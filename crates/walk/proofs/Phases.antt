@@ -30,6 +30,7 @@ use Rattle.freeze.proofs.Scratch.{walk-path}
 use Rattle.freeze.proofs.Freezing.{freeze-most, count-most}
 use Rattle.walk.proofs.Ending.{coordinates, step-sound, next, going, phase-full, phase-on, phase-last}
 use Rattle.seq.proofs.Keeping.{count-short}
+use Rattle.draw.specs.declared.SplitMix64.{SplitMix64}
 
 -- a step keeps the basis within l
 module _ (z : Float) (a : ℕ → ℕ → Float) (l n : ℕ) (w : Walk) (fits : length (w .basis) ≤ l) where
@@ -55,7 +56,8 @@ module _ (z : Float) (a : ℕ → ℕ → Float) (l n : ℕ) (w : Walk) (fits : 
 
 -- what holds between two steps
 pub record Going (a : ℕ → ℕ → Float) (l : ℕ) (num₀ : List Float) (blocked₀ : List ℕ) (x₀ : List Float) (free₀ : List ℕ) (g₀ : List Float) (start : Walk)
-    (num : List Float) (blocked : List ℕ) (x : List Float) (free : List ℕ) (g : List Float) (count frozen rng directions : ℕ) : Type 0 where
+    (num : List Float) (blocked : List ℕ) (x : List Float) (free : List ℕ) (g : List Float) (count frozen : ℕ)
+    (rng : SplitMix64) (directions : ℕ) : Type 0 where
   pub roomy : Roomy l num blocked x free count
   pub nums : length num ≡ length num₀
   pub rows : length blocked ≡ length blocked₀
@@ -68,7 +70,7 @@ pub record Going (a : ℕ → ℕ → Float) (l : ℕ) (num₀ : List Float) (bl
       ≡ courseOf plusZero a l (length blocked₀) start
 
 module _ (a : ℕ → ℕ → Float) (l : ℕ) (num₀ : List Float) (blocked₀ : List ℕ) (x₀ : List Float) (free₀ : List ℕ) (g₀ : List Float) where
-  pub going-start : (count frozen rng : ℕ) → Roomy l num₀ blocked₀ x₀ free₀ count → frozen ≡ 0
+  pub going-start : (count frozen : ℕ) (rng : SplitMix64) → Roomy l num₀ blocked₀ x₀ free₀ count → frozen ≡ 0
       → Going a l num₀ blocked₀ x₀ free₀ g₀ (held num₀ blocked₀ x₀ free₀ count frozen rng) num₀ blocked₀ x₀ free₀ g₀ count frozen rng 0
   going-start count frozen rng r e =
       record {
@@ -83,7 +85,8 @@ module _ (a : ℕ → ℕ → Float) (l : ℕ) (num₀ : List Float) (blocked₀
         same = refl;
       }
 
-  module _ (start : Walk) (num : List Float) (blocked : List ℕ) (x : List Float) (free : List ℕ) (g : List Float) (count frozen rng directions : ℕ)
+  module _ (start : Walk) (num : List Float) (blocked : List ℕ) (x : List Float) (free : List ℕ) (g : List Float) (count frozen : ℕ)
+      (rng : SplitMix64) (directions : ℕ)
       (i : Going a l num₀ blocked₀ x₀ free₀ g₀ start num blocked x free g count frozen rng directions) where
     abbrev n : ℕ
     n = length blocked₀
@@ -95,7 +98,7 @@ module _ (a : ℕ → ℕ → Float) (l : ℕ) (num₀ : List Float) (blocked₀
     counted : length (now-at .basis) ≡ count
     counted = length-vectors (length x) count (drop (length blocked + length blocked + length blocked) num)
 
-    pub going-full : l ≤ count → (r : Phased) → r .at .count ≡ count → r .at .frozen ≡ frozen → r .at .rng .state ≡ rng → r .directions ≡ directions
+    pub going-full : l ≤ count → (r : Phased) → r .at .count ≡ count → r .at .frozen ≡ frozen → r .at .rng ≡ rng → r .directions ≡ directions
         → CourseHolds num blocked x free r (courseOf plusZero a l n start)
     going-full h r ec ef er ed =
         let e : going plusZero a l n directions now-at ≡ courseOf plusZero a l n start =
@@ -108,7 +111,7 @@ module _ (a : ℕ → ℕ → Float) (l : ℕ) (num₀ : List Float) (blocked₀
     module _ (num' : List Float) (blocked' : List ℕ) (x' : List Float) (free' : List ℕ) (s : Went) (short : count < l)
         (given : StepHolds num' blocked' x' free' s (stepOf plusZero a l (length blocked) now-at)) where
       abbrev next-at : Walk
-      next-at = held num' blocked' x' free' (s .at .count) (s .at .frozen) (s .at .rng .state)
+      next-at = held num' blocked' x' free' (s .at .count) (s .at .frozen) (s .at .rng)
 
       abbrev one : Stepped
       one = stepOf plusZero a l n now-at
@@ -138,7 +141,7 @@ module _ (a : ℕ → ℕ → Float) (l : ℕ) (num₀ : List Float) (blocked₀
 
       pub going-on : (g' : List Float) → s .more ≡ true
           → length num' ≡ length num → length blocked' ≡ length blocked → length x' ≡ length x → length free' ≡ length free → length g' ≡ length g
-          → Going a l num₀ blocked₀ x₀ free₀ g₀ start num' blocked' x' free' g' (s .at .count) (s .at .frozen) (s .at .rng .state) (directions + 1)
+          → Going a l num₀ blocked₀ x₀ free₀ g₀ start num' blocked' x' free' g' (s .at .count) (s .at .frozen) (s .at .rng) (directions + 1)
       going-on g' e ln lb lx lf lg =
           let q : Roomy l num blocked x free count = i .roomy in
           record {
@@ -146,7 +149,7 @@ module _ (a : ℕ → ℕ → Float) (l : ℕ) (num₀ : List Float) (blocked₀
               room = omega (arith, ln, lb, q .room);
               wide = lx ∙ q .wide;
               marks = lf ∙ q .marks;
-              most = count-most l (s .at .count) num' blocked' x' free' (s .at .frozen) (s .at .rng .state) (one .walk) (here .walk)
+              most = count-most l (s .at .count) num' blocked' x' free' (s .at .frozen) (s .at .rng) (one .walk) (here .walk)
                   (step-most plusZero a l n now-at (omega (arith, counted)));
             };
             nums = ln ∙ i .nums;
@@ -176,7 +179,7 @@ module _ (a : ℕ → ℕ → Float) (l : ℕ) (num : List Float) (blocked : Lis
   abbrev rows-of : ℕ
   rows-of = length blocked
 
-  pub start-held : (rng : ℕ) → held num' blocked' x free' count 0 rng ≡ begun plusZero a l rows-of x (axIn rows-of num) rng
+  pub start-held : (rng : SplitMix64) → held num' blocked' x free' count 0 rng ≡ begun plusZero a l rows-of x (axIn rows-of num) rng
   unfolding begun
   start-held rng =
       walk-path refl (ef ∙ ap (repeated 1) (room .marks)) refl (ap (λ (k : ℕ). axIn k num') lb ∙ b .ax) (b .marks)
@@ -194,7 +197,7 @@ module _ (a : ℕ → ℕ → Float) (l : ℕ) (num : List Float) (blocked : Lis
         most = omega (arith, c, block-most plusZero a l first (length first));
       }
 
-  pub phase-is : {num'' : List Float} {blocked'' : List ℕ} {x'' : List Float} {free'' : List ℕ} {r : Phased} (rng : ℕ)
+  pub phase-is : {num'' : List Float} {blocked'' : List ℕ} {x'' : List Float} {free'' : List ℕ} {r : Phased} (rng : SplitMix64)
       → CourseHolds num'' blocked'' x'' free'' r (courseOf plusZero a l (length blocked') (held num' blocked' x free' count 0 rng))
       → CourseHolds num'' blocked'' x'' free'' r (courseOf plusZero a l rows-of (begun plusZero a l rows-of x (axIn rows-of num) rng))
   phase-is {num''} {blocked''} {x''} {free''} {r} rng h =

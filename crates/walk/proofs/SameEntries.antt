@@ -26,6 +26,7 @@ use Rattle.direction.specs.Step.{reachTo}
 use Rattle.freeze.specs.Freeze.{Walk, axis, blocking, frozenAt, freezeTo}
 use Rattle.begin.specs.Begin.{blockTo, begun}
 use Rattle.walk.specs.Walk.{Stepped, drew, steppedAlong, stepOf, further, ended, left, courseFrom, courseOf}
+use Rattle.draw.specs.declared.SplitMix64.{SplitMix64}
 
 -- equal steps give equal loops
 pub run-cong : {S : Type 0} (done : S → Bool) (f g : S → S) → ((s : S) → f s ≡ g s) → (k : ℕ) (s : S) → run done f k s ≡ run done g k s
@@ -125,6 +126,6 @@ module _ (z : Float) (a b : ℕ → ℕ → Float) (l n : ℕ) (same : (p i : �
       go (yes h) = block-same (firstRows z b l n ax) (λ k. rw (first-same ax) at (first-below ax h k)) (length (firstRows z b l n ax))
       go (no h) = rw (none-first ax (omega arith))
 
-  pub begun-same : (x ax : List Float) (rng : ℕ) → begun z a l n x ax rng ≡ begun z b l n x ax rng
+  pub begun-same : (x ax : List Float) (rng : SplitMix64) → begun z a l n x ax rng ≡ begun z b l n x ax rng
   unfolding begun
   begun-same x ax rng = rw (first-same ax, basis-same ax)

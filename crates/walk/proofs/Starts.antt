@@ -30,6 +30,7 @@ use Rattle.begin.specs.Begin.{blockTo, marksTo, begun}
 use Rattle.walk.specs.Walk.{Stepped, drew, advanced, steppedAlong, stepOf, Course, further, ended, freeOnes, courseFrom, courseOf}
 use Rattle.walk.proofs.Pairs.{Each, none, more, each-length, each-at, each-set, each-join, each-tab, each-tabs, each-same, pick-both, run-both}
 use Rattle.walk.proofs.Divisors.{divisor}
+use Rattle.draw.specs.declared.SplitMix64.{SplitMix64}
 
 -- vectors that are equal but for the sign of zeros
 abbrev pub AlikeList : List Float → List Float → Type 0
@@ -143,7 +144,7 @@ unfolding turned
 turned-alike {v} {v'} {t} {t'} e p =
     each-tabs (turnedAt t v) (turnedAt t' v') (each-length p) (λ i. pick-alike {t = t} {t' = t'} e (neg-alike (at-alike p i)) (at-alike p i))
 
-drawn-alike : {rng rng' : ℕ} → rng ≡ rng' → (l : ℕ) → AlikeList (drawn rng l) (drawn rng' l)
+drawn-alike : {rng rng' : SplitMix64} → rng ≡ rng' → (l : ℕ) → AlikeList (drawn rng l) (drawn rng' l)
 drawn-alike {rng} {rng'} e l = rw e (same-list (drawn rng' l))
 
 comes-same : {ax ax' norms norms' : List Float} → AlikeList ax ax' → AlikeList norms norms' → (x y : ℕ) → comesFirst ax norms x y ≡ comesFirst ax' norms' x y
@@ -166,7 +167,15 @@ freezes-same r p = rw (r .free, le-alike (alike-refl freezeLimit) (abs-alike (at
 
 drew-alike : {w w' : Walk} (l : ℕ) → AlikeWalk w w' → AlikeWalk (drew l w) (drew l w')
 drew-alike l r =
-    record { x = r .x; free = r .free; frozen = r .frozen; ax = r .ax; blocked = r .blocked; basis = r .basis; rng = ap (λ (m : ℕ). afterDraws m l) (r .rng) }
+    record {
+      x = r .x;
+      free = r .free;
+      frozen = r .frozen;
+      ax = r .ax;
+      blocked = r .blocked;
+      basis = r .basis;
+      rng = ap (λ (m : SplitMix64). afterDraws m l) (r .rng);
+    }
 
 -- ---- what adds up, from a zero z and from +0.0
 
@@ -259,7 +268,7 @@ module _ (z : Float) (start : Alike z plusZero) where
     block-alike rows zero = none
     block-alike rows (suc k) = blocking-alike (getD rows k 0) (block-alike rows k)
 
-    pub begun-alike : {x x' ax ax' : List Float} (rng : ℕ) → AlikeList x x' → AlikeList ax ax' → AlikeWalk
+    pub begun-alike : {x x' ax ax' : List Float} (rng : SplitMix64) → AlikeList x x' → AlikeList ax ax' → AlikeWalk
         (begun z a l n x ax rng) (begun plusZero a l n x' ax' rng)
     unfolding begun
     begun-alike {x} {x'} {ax} {ax'} rng p q =
@@ -321,7 +330,7 @@ module _ (z : Float) (start : Alike z plusZero) where
           ax = along-alike (r .ax) (turned-alike e ag) p;
           blocked = r .blocked;
           basis = r .basis;
-          rng = ap (λ (m : ℕ). afterDraws m l) (r .rng);
+          rng = ap (λ (m : SplitMix64). afterDraws m l) (r .rng);
         } in
         let f : AlikeWalk (freezeTo z a l n v l) (freezeTo plusZero a l n v' l) = freeze-alike there l in
         pick-both AlikeStepped (finite-alike p) (λ _. record { more = (λ i. ltb (r .frozen i) (f .frozen i)); walk = f })

@@ -25,6 +25,7 @@ use Rattle.walk.specs.Walking.{StepHolds}
 use Rattle.walk.specs.declared.Went.{Went}
 use Rattle.freeze.proofs.Scratch.{vectors-take, drop-later, walk-path}
 use Rattle.advance.proofs.Advancing.{length-directed}
+use Rattle.draw.specs.declared.SplitMix64.{SplitMix64}
 
 -- the arm of a choice whose test is known
 picked : {w : List Float} (t : Bool) (u v : List Float) → w ≡ pick t u v → t ≡ true → w ≡ u
@@ -40,7 +41,7 @@ vectors-room l num blocked x free count r = omega (arith, mul-le-mul-right l (r 
 
 -- k is as long as the count vectors; the draws are g1, what is left of them g2, and s says that this is too little
 module _ (a : ℕ → ℕ → Float) (l : ℕ) (num : List Float) (blocked : List ℕ) (x : List Float) (free : List ℕ)
-    (count frozen rng k : ℕ) (g g1 g2 : List Float) (s : Bool)
+    (count frozen : ℕ) (rng : SplitMix64) (k : ℕ) (g g1 g2 : List Float) (s : Bool)
     (room : Roomy l num blocked x free count) (ek : k ≡ count * l) (lg : length g ≡ l) (eg : g1 ≡ drawn rng (length g))
     (e2 : g2 ≡ directed plusZero (vectorsIn l count (part (length blocked + length blocked + length blocked) k num)) free g1)
     (es : s ≡ tooShort plusZero g1 (directed plusZero (vectorsIn l count (part (length blocked + length blocked + length blocked) k num)) free g1)) where
@@ -75,7 +76,7 @@ module _ (a : ℕ → ℕ → Float) (l : ℕ) (num : List Float) (blocked : Lis
   way-long = ap length way-is ∙ length-directed plusZero (w .basis) free (drawn rng l) ∙ length-tab _ l
 
   -- too little is left of the direction
-  pub stops-short : (o : Went) → s ≡ true → o .more ≡ false → o .at .count ≡ count → o .at .frozen ≡ frozen → o .at .rng .state ≡ afterDraws rng (length g)
+  pub stops-short : (o : Went) → s ≡ true → o .more ≡ false → o .at .count ≡ count → o .at .frozen ≡ frozen → o .at .rng ≡ afterDraws rng (length g)
       → StepHolds num blocked x free o (stepOf plusZero a l n w)
   unfolding stepOf
   stops-short o e em ec ef er =
@@ -104,7 +105,7 @@ module _ (a : ℕ → ℕ → Float) (l : ℕ) (num : List Float) (blocked : Lis
         ∙ ap (vectorsIn (length x) count) (drop-later (n + n) base num num1 (omega arith) (go .rest))
 
     -- the step would not be finite
-    pub stops-nowhere : (o : Went) → r ≡ false → o .more ≡ false → o .at .count ≡ count → o .at .frozen ≡ frozen → o .at .rng .state ≡ afterDraws rng (length g)
+    pub stops-nowhere : (o : Went) → r ≡ false → o .more ≡ false → o .at .count ≡ count → o .at .frozen ≡ frozen → o .at .rng ≡ afterDraws rng (length g)
         → StepHolds num1 blocked x1 free o (stepOf plusZero a l n w)
     unfolding stepOf steppedAlong
     stops-nowhere o e em ec ef er =
@@ -118,13 +119,13 @@ module _ (a : ℕ → ℕ → Float) (l : ℕ) (num : List Float) (blocked : Lis
 
     -- the step is made, and coordinates freeze
     pub moves-on : (o : Went) (num' : List Float) (blocked' : List ℕ) (x' : List Float) (free' : List ℕ) (c f : ℕ) → r ≡ true → length x1 ≡ length x
-        → ((q : ℕ) → held num' blocked' x' free' c f q ≡ freezeTo plusZero a l n (held num1 blocked x1 free count frozen q) l)
-        → o .more ≡ ltb frozen f → o .at .count ≡ c → o .at .frozen ≡ f → o .at .rng .state ≡ afterDraws rng (length g)
+        → ((q : SplitMix64) → held num' blocked' x' free' c f q ≡ freezeTo plusZero a l n (held num1 blocked x1 free count frozen q) l)
+        → o .more ≡ ltb frozen f → o .at .count ≡ c → o .at .frozen ≡ f → o .at .rng ≡ afterDraws rng (length g)
         → StepHolds num' blocked' x' free' o (stepOf plusZero a l n w)
     unfolding stepOf steppedAlong
     moves-on o num' blocked' x' free' c f e lx h em ec ef er =
         let t : finite (reachOf l way) ≡ true = sym goes-is ∙ e in
-        let rng' : ℕ = o .at .rng .state in
+        let rng' : SplitMix64 = o .at .rng in
         let next : Walk = advanced l w (reachOf l way) (turned (upOf l way) way) (turned (upOf l way) (times plusZero a l n way)) in
         let ex : x1 ≡ moved (reachOf l way) x (turned (upOf l way) way) free =
         picked r _ _ (go .moves) e

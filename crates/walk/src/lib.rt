@@ -56,7 +56,7 @@ fn step(
         (stepOf plusZero (entryOf (now (u .entry)) n (now (cols .entry)) (now (scale .entry)))
         (length (now (cols .entry))) (length (now (blocked .entry)))
         (held (now (num .entry)) (now (blocked .entry)) (now (x .entry)) (now (free .entry)) (from .count)
-        (from .frozen) (from .rng .state))) ⌝ }
+        (from .frozen) (from .rng))) ⌝ }
 {
     let l = cols.len();
     let rows = blocked.len();
@@ -118,7 +118,7 @@ fn steps(
         (courseOf plusZero (entryOf (now (u .entry)) n (now (cols .entry)) (now (scale .entry)))
         (length (now (cols .entry))) (length (now (blocked .entry)))
         (held (now (num .entry)) (now (blocked .entry)) (now (x .entry)) (now (free .entry)) (from .count)
-        (from .frozen) (from .rng .state))) ⌝ }
+        (from .frozen) (from .rng))) ⌝ }
 {
     let mut at = from;
     let mut directions = 0usize;
@@ -158,7 +158,7 @@ pub fn phase(
         (length (now (cols .entry))) (length (now (blocked .entry)))
         (begun plusZero (entryOf (now (u .entry)) n (now (cols .entry)) (now (scale .entry)))
         (length (now (cols .entry))) (length (now (blocked .entry))) (now (x .entry))
-        (axIn (length (now (blocked .entry))) (now (num .entry))) (rng .state))) ⌝ }
+        (axIn (length (now (blocked .entry))) (now (num .entry))) rng)) ⌝ }
 {
     fill_words(&mut free[..], 1);
     let count = begin(num, blocked, u, n, cols, scale, &mut g[..]);

@@ -7,7 +7,7 @@
 //! [`MAX_COLUMNS`] columns and [`MAX_ROWS`] rows. What cannot be done is refused, never a panic: see [`Refusal`].
 //!
 //! ```
-//! use knobthistle::{max_margin_change, sparsify, thin, turned_words, Job, Refusal, Rule};
+//! use knobthistle::{max_margin_change, sparsify, thin, turned_words, Edition, Job, Refusal, Rule};
 //!
 //! # fn main() -> Result<(), Refusal> {
 //! // Two hypotheses on two examples; they disagree on the second.
@@ -15,7 +15,7 @@
 //! let weights = [1.0, 3.0];
 //!
 //! // As sparse as it gets while no margin changes by more than a half.
-//! let job = Job { seed: 0, rule: Rule::Within { allowance: 0.5, cap: None } };
+//! let job = Job { seed: 0, edition: Edition::First, rule: Rule::Within { allowance: 0.5, cap: None } };
 //! let thinned = thin(&columns, &weights, job)?;
 //! assert_eq!(thinned.weights, [0.0, 1.0]);
 //! assert_eq!((thinned.stage, thinned.nonzeros, thinned.change), (1, 1, 0.5));
@@ -65,7 +65,7 @@ pub use lent::{MAX_COLUMNS, MAX_ROWS};
 pub use margins::{max_margin_change, turned_words};
 pub use moving::{moved, Moved};
 pub use refusal::Refusal;
-pub use thinning::{sparsify, sparsify_within, thin, Job, Rule, Thinned};
+pub use thinning::{sparsify, sparsify_within, thin, Edition, Job, Rule, Thinned};
 
 /// The example of the repository's README, built and run as a test.
 #[cfg(doctest)]

@@ -13,6 +13,8 @@ pub enum Refusal {
     InfiniteAllowance = 12,
     /// 2: the target or the cap is 0.
     Zero = 2,
+    /// 13: the edition is neither 1 nor 2. This crate has no other, so none of its calls gives it.
+    Edition = 13,
     /// 3: more than 256 columns or more than 4096 rows.
     Size = 3,
     /// 4: the columns differ in length, or there is not one weight for each column.
@@ -33,10 +35,11 @@ pub enum Refusal {
 
 impl Refusal {
     /// Every refusal, in the order of the tests.
-    pub const ALL: [Refusal; 11] = [
+    pub const ALL: [Refusal; 12] = [
         Refusal::Allowance,
         Refusal::InfiniteAllowance,
         Refusal::Zero,
+        Refusal::Edition,
         Refusal::Size,
         Refusal::Length,
         Refusal::Empty,
@@ -47,7 +50,7 @@ impl Refusal {
         Refusal::ColoringEntry,
     ];
 
-    /// The number, 1 to 12 but 10, which is used for nothing.
+    /// The number, 1 to 13 but 10, which is used for nothing.
     pub fn number(self) -> u64 {
         self as u64
     }
@@ -68,6 +71,7 @@ impl fmt::Display for Refusal {
             Refusal::Allowance => "the allowed change is negative or not a number",
             Refusal::InfiniteAllowance => "the allowed change is infinite",
             Refusal::Zero => "the target or the cap is 0",
+            Refusal::Edition => "the edition is neither 1 nor 2",
             Refusal::Size => "there are more than 256 columns or more than 4096 rows",
             Refusal::Length => "the columns differ in length, or there is not one weight for each column",
             Refusal::Empty => "there is no column or no row",

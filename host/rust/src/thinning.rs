@@ -16,10 +16,21 @@ pub enum Rule {
     Within { allowance: f64, cap: Option<usize> },
 }
 
-/// A job: the seed of its draws, and when it stops.
+/// Which number an output of the generator becomes.
+#[derive(Clone, Copy, Debug, Default, PartialEq, Eq, Hash)]
+pub enum Edition {
+    /// The upper 53 bits and a half, over 2^53: above 0 and at most 1. Shipped ensembles name it.
+    #[default]
+    First = 1,
+    /// The upper 52 bits and a half, over 2^52: exact, and strictly between 0 and 1.
+    Second = 2,
+}
+
+/// A job: the seed of its draws, their edition, and when it stops.
 #[derive(Clone, Copy, Debug, PartialEq)]
 pub struct Job {
     pub seed: u64,
+    pub edition: Edition,
     pub rule: Rule,
 }
 
@@ -58,6 +69,7 @@ pub fn thin(columns: &[Vec<f64>], weights: &[f64], job: Job) -> Result<Thinned, 
                 weights.as_ptr(),
                 weights.len(),
                 job.seed,
+                job.edition as u32,
                 target,
                 output.as_mut_ptr(),
                 output.len(),
@@ -75,6 +87,7 @@ pub fn thin(columns: &[Vec<f64>], weights: &[f64], job: Job) -> Result<Thinned, 
                 weights.as_ptr(),
                 weights.len(),
                 job.seed,
+                job.edition as u32,
                 allowance,
                 u32::from(cap.is_some()),
                 cap.unwrap_or(0),
@@ -94,18 +107,18 @@ pub fn thin(columns: &[Vec<f64>], weights: &[f64], job: Job) -> Result<Thinned, 
 }
 
 /// Thins weights to at most `target` nonzeros. The weights are divided by the sum of their magnitudes first; signs are kept, and a
-/// weight that is 0 stays 0. Refusals 2 to 5 and 7 to 9.
+/// weight that is 0 stays 0. Draws are those of [`Edition::First`]. Refusals 2 to 5 and 7 to 9.
 ///
 /// ```
 /// let columns = vec![vec![1.0, 1.0], vec![1.0, -1.0]];
 /// assert_eq!(knobthistle::sparsify(&columns, &[-3.0, 1.0], 1, 0), Ok(vec![-1.0, 0.0]));
 /// ```
 pub fn sparsify(columns: &[Vec<f64>], weights: &[f64], target: usize, seed: u64) -> Result<Vec<f64>, Refusal> {
-    thin(columns, weights, Job { seed, rule: Rule::Target(target) }).map(|thinned| thinned.weights)
+    thin(columns, weights, Job { seed, edition: Edition::First, rule: Rule::Target(target) }).map(|thinned| thinned.weights)
 }
 
 /// Thins weights as far as no margin changes by more than `max_change`; with `max_nonzeros` to at most so many, even where the change is
-/// exceeded: see [`Rule::Within`]. Refusals 1 to 5 and 7 to 9.
+/// exceeded: see [`Rule::Within`]. Draws are those of [`Edition::First`]. Refusals 1 to 5 and 7 to 9.
 ///
 /// ```
 /// let columns = vec![vec![1.0, 1.0], vec![1.0, -1.0]];
@@ -121,5 +134,5 @@ pub fn sparsify_within(
     seed: u64,
 ) -> Result<Vec<f64>, Refusal> {
     let rule = Rule::Within { allowance: max_change, cap: max_nonzeros };
-    thin(columns, weights, Job { seed, rule }).map(|thinned| thinned.weights)
+    thin(columns, weights, Job { seed, edition: Edition::First, rule }).map(|thinned| thinned.weights)
 }

@@ -1,8 +1,8 @@
 //! The safe calls against the archive's own, bit for bit, and their answers against each other.
 
 use knobthistle::{
-    color, discrepancy_coloring, max_margin_change, sparsification, sparsify, sparsify_within, thin, turned_words, Coloring, Job, Rule,
-    Thinned,
+    color, discrepancy_coloring, max_margin_change, sparsification, sparsify, sparsify_within, thin, turned_words, Coloring, Edition, Job,
+    Rule, Thinned,
 };
 
 /// The archive's answer, declared as C has it.
@@ -30,12 +30,12 @@ struct Colored {
 #[rustfmt::skip]
 extern "C" {
     fn knob_sparsify(
-        matrix: *const f64, matrix_length: usize, m: usize, n: usize, weights: *const f64, weights_length: usize, seed: u64, target: usize,
-        output: *mut f64, output_length: usize, numbers: *mut f64, numbers_length: usize, indices: *mut u32, indices_length: usize,
+        matrix: *const f64, matrix_length: usize, m: usize, n: usize, weights: *const f64, weights_length: usize, seed: u64, edition: u32,
+        target: usize, output: *mut f64, output_length: usize, numbers: *mut f64, numbers_length: usize, indices: *mut u32, indices_length: usize,
     ) -> Answer;
     fn knob_sparsify_within(
-        matrix: *const f64, matrix_length: usize, m: usize, n: usize, weights: *const f64, weights_length: usize, seed: u64, allowance: f64,
-        capped: u32, cap: usize, output: *mut f64, output_length: usize, numbers: *mut f64, numbers_length: usize, indices: *mut u32,
+        matrix: *const f64, matrix_length: usize, m: usize, n: usize, weights: *const f64, weights_length: usize, seed: u64, edition: u32,
+        allowance: f64, capped: u32, cap: usize, output: *mut f64, output_length: usize, numbers: *mut f64, numbers_length: usize, indices: *mut u32,
         indices_length: usize,
     ) -> Answer;
     fn knob_discrepancy_coloring(
@@ -54,11 +54,11 @@ fn directly(columns: &[Vec<f64>], weights: &[f64], job: Job) -> Thinned {
     let a = unsafe {
         match job.rule {
             Rule::Target(target) => knob_sparsify(
-                matrix.as_ptr(), m * n, m, n, weights.as_ptr(), m, job.seed, target,
+                matrix.as_ptr(), m * n, m, n, weights.as_ptr(), m, job.seed, job.edition as u32, target,
                 output.as_mut_ptr(), m, numbers.as_mut_ptr(), numbers.len(), indices.as_mut_ptr(), indices.len(),
             ),
             Rule::Within { allowance, cap } => knob_sparsify_within(
-                matrix.as_ptr(), m * n, m, n, weights.as_ptr(), m, job.seed, allowance, u32::from(cap.is_some()), cap.unwrap_or(99),
+                matrix.as_ptr(), m * n, m, n, weights.as_ptr(), m, job.seed, job.edition as u32, allowance, u32::from(cap.is_some()), cap.unwrap_or(99),
                 output.as_mut_ptr(), m, numbers.as_mut_ptr(), numbers.len(), indices.as_mut_ptr(), indices.len(),
             ),
         }
@@ -106,7 +106,7 @@ fn jobs_equal_direct_calls() {
         let some = 1 + chance.word() as usize % columns.len();
         let allowance = chance.signed().abs() / 2.0;
         for rule in [Rule::Target(some), Rule::Within { allowance, cap: None }, Rule::Within { allowance, cap: Some(some) }] {
-            let job = Job { seed, rule };
+            let job = Job { seed, edition: if seed % 2 == 0 { Edition::First } else { Edition::Second }, rule };
             let (ours, theirs) = (thin(&columns, &weights, job).unwrap(), directly(&columns, &weights, job));
             assert_eq!(bits(&ours.weights), bits(&theirs.weights), "{job:?}");
             assert_eq!((ours.stage, ours.nonzeros, ours.change.to_bits()), (theirs.stage, theirs.nonzeros, theirs.change.to_bits()));
@@ -158,7 +158,7 @@ fn answers_agree_with_each_other() {
         let normalised: Vec<f64> = weights.iter().map(|w| w / sum).collect();
         let cap = if chance.signed() < 0.0 { None } else { Some(some) };
         for rule in [Rule::Target(some), Rule::Within { allowance, cap }] {
-            let thinned = thin(&columns, &weights, Job { seed, rule }).unwrap();
+            let thinned = thin(&columns, &weights, Job { seed, edition: Edition::First, rule }).unwrap();
             let alone = match rule {
                 Rule::Target(target) => sparsify(&columns, &weights, target, seed),
                 Rule::Within { allowance, cap } => sparsify_within(&columns, &weights, allowance, cap, seed),
@@ -181,7 +181,8 @@ fn answers_agree_with_each_other() {
 fn the_cap_forces_passes() {
     let columns: Vec<Vec<f64>> = (0..32).map(|j| (0..10).map(|i| if (j * 7 + i * 3) % 5 < 3 { 1.0 } else { -1.0 }).collect()).collect();
     let weights = vec![1.0 / 32.0; 32];
-    let of = |allowance, cap| thin(&columns, &weights, Job { seed: 0, rule: Rule::Within { allowance, cap } }).unwrap();
+    let of =
+        |allowance, cap| thin(&columns, &weights, Job { seed: 0, edition: Edition::First, rule: Rule::Within { allowance, cap } }).unwrap();
     let (free, capped, still) = (of(0.01, None), of(0.01, Some(2)), of(0.0, Some(32)));
     assert!(free.change <= 0.01);
     assert!(capped.nonzeros <= 2 && capped.stage > free.stage && capped.change > 0.01);

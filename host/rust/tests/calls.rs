@@ -1,7 +1,7 @@
 //! Every safe call with arguments that all differ, and answers that all differ: the jobs of host/calls.c. So an exchange of two arguments
 //! or of two fields on the way to the archive and back gives another answer here.
 
-use knobthistle::{discrepancy_coloring, max_margin_change, sparsify, sparsify_within, thin, turned_words, Job, Rule, Thinned};
+use knobthistle::{discrepancy_coloring, max_margin_change, sparsify, sparsify_within, thin, turned_words, Edition, Job, Rule, Thinned};
 
 /// Entries from -1 to 1.
 fn columns(m: usize, n: usize) -> Vec<Vec<f64>> {
@@ -28,9 +28,39 @@ fn target() {
     let left =
         [(3, 0x3FB826A439F656F2), (4, 0x3FCCFB2B78C13523), (5, 0x3FC3521CFB2B78C2), (17, 0xBFC3521CFB2B78C2), (19, 0x3FD826A439F656F2)];
     let (columns, weights) = (columns(24, 5), weights(24));
-    let thinned = thin(&columns, &weights, Job { seed: 3, rule: Rule::Target(7) }).unwrap();
+    let thinned = thin(&columns, &weights, Job { seed: 3, edition: Edition::First, rule: Rule::Target(7) }).unwrap();
     assert_eq!(sparsify(&columns, &weights, 7, 3).as_ref(), Ok(&thinned.weights));
     hold(thinned, 24, 2, 5, 0x3FDC6EF752A04B3C, &left);
+}
+
+/// From a seed on which the two editions leave other weights.
+#[test]
+fn target_by_edition_2() {
+    let left =
+        [(3, 0x3FB745D1745D1746), (8, 0x3FD745D1745D1746), (13, 0x3FC745D1745D1746), (17, 0xBFC29E4129E4129F), (18, 0x3FCBED61BED61BED)];
+    let (columns, weights, seed, rule) = (columns(24, 5), weights(24), 0xACFA9D4D29BC9012, Rule::Target(7));
+    let thinned = thin(&columns, &weights, Job { seed, edition: Edition::Second, rule }).unwrap();
+    assert_ne!(sparsify(&columns, &weights, 7, seed).as_ref(), Ok(&thinned.weights));
+    hold(thinned, 24, 2, 5, 0x3FD10EDEAD3F798D, &left);
+}
+
+#[test]
+fn within_by_edition_2() {
+    let left = [
+        (1, 0x3FC948B0FCD6E9E0),
+        (3, 0x3FAF9ADD3C0CA457),
+        (8, 0x3FAF9ADD3C0CA457),
+        (9, 0x3FBF9ADD3C0CA457),
+        (14, 0x3FAF9ADD3C0CA457),
+        (27, 0xBFB948B0FCD6E9E0),
+        (36, 0x3FCF9ADD3C0CA457),
+        (37, 0xBFC2F684BDA12F68),
+    ];
+    let (columns, weights, seed, rule) =
+        (columns(40, 7), weights(40), 0x7F2BA34D7BA521E7, Rule::Within { allowance: 0.03125, cap: Some(12) });
+    let thinned = thin(&columns, &weights, Job { seed, edition: Edition::Second, rule }).unwrap();
+    assert_ne!(sparsify_within(&columns, &weights, 0.03125, Some(12), seed).as_ref(), Ok(&thinned.weights));
+    hold(thinned, 40, 2, 8, 0x3FD20EFBF9223017, &left);
 }
 
 #[test]
@@ -46,7 +76,9 @@ fn within() {
         (36, 0x3FD0690690690690),
     ];
     let (columns, weights) = (columns(40, 7), weights(40));
-    let thinned = thin(&columns, &weights, Job { seed: 4, rule: Rule::Within { allowance: 0.03125, cap: Some(12) } }).unwrap();
+    let thinned =
+        thin(&columns, &weights, Job { seed: 4, edition: Edition::First, rule: Rule::Within { allowance: 0.03125, cap: Some(12) } })
+            .unwrap();
     assert_eq!(sparsify_within(&columns, &weights, 0.03125, Some(12), 4).as_ref(), Ok(&thinned.weights));
     hold(thinned, 40, 2, 8, 0x3FD171B8E4FA2B41, &left);
 }

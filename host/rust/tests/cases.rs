@@ -1,8 +1,13 @@
 //! The worked cases of the document that the library is built from. C10 and C11 are of the draw, which this crate does not hand on.
 
-use knobthistle::{discrepancy_coloring, max_margin_change, sparsify, sparsify_within, thin, Job, Refusal, Rule, Thinned};
+use knobthistle::{discrepancy_coloring, max_margin_change, sparsify, sparsify_within, thin, Edition, Job, Refusal, Rule, Thinned};
 
 const SEEDS: [u64; 5] = [0, 1, 0x61C8_8646_80B5_83EB, 1 << 63, u64::MAX];
+
+/// Jobs by a rule, with each of the seeds and both editions of the draw.
+fn jobs(rule: Rule) -> impl Iterator<Item = Job> {
+    SEEDS.into_iter().flat_map(move |seed| [Edition::First, Edition::Second].map(|edition| Job { seed, edition, rule }))
+}
 
 /// C1's matrix: two rows, columns (1, 1) and (1, -1).
 fn columns() -> Vec<Vec<f64>> {
@@ -13,11 +18,11 @@ fn within(allowance: f64, cap: Option<usize>) -> Rule {
     Rule::Within { allowance, cap }
 }
 
-/// The answer to a job on C1's matrix, the same for every seed.
+/// The answer to a job on C1's matrix, the same for every seed and edition.
 fn on_every_seed(weights: [f64; 2], rule: Rule) -> Result<Thinned, Refusal> {
-    let first = thin(&columns(), &weights, Job { seed: SEEDS[0], rule });
-    for seed in SEEDS {
-        assert_eq!(thin(&columns(), &weights, Job { seed, rule }), first, "seed {seed:016X}");
+    let first = thin(&columns(), &weights, Job { seed: SEEDS[0], edition: Edition::default(), rule });
+    for job in jobs(rule) {
+        assert_eq!(thin(&columns(), &weights, job), first, "{job:?}");
     }
     first
 }
@@ -75,11 +80,11 @@ fn c7_no_weight() {
 #[test]
 fn c8_one_pass_leaves_the_largest() {
     for support in 2..=4 {
-        for seed in SEEDS {
+        for job in jobs(Rule::Target(support - 1)) {
             for sign in [1.0, -1.0] {
                 let mut weights: Vec<f64> = (0..support).map(|j| 1.0 + j as f64).collect();
                 weights[1] = sign * 9.0;
-                let thinned = thin(&pattern(support, 5), &weights, Job { seed, rule: Rule::Target(support - 1) }).unwrap();
+                let thinned = thin(&pattern(support, 5), &weights, job).unwrap();
                 let mut alone = vec![0.0; support];
                 alone[1] = sign;
                 assert_eq!((thinned.weights, thinned.stage, thinned.nonzeros), (alone, 1, 1));
@@ -91,8 +96,8 @@ fn c8_one_pass_leaves_the_largest() {
 #[test]
 fn c9_a_hundred() {
     let weights: Vec<f64> = (0..100).map(|j| 1.0 + (j % 13) as f64).collect();
-    for seed in SEEDS {
-        let thinned = thin(&pattern(100, 40), &weights, Job { seed, rule: Rule::Target(99) }).unwrap();
+    for job in jobs(Rule::Target(99)) {
+        let thinned = thin(&pattern(100, 40), &weights, job).unwrap();
         assert!(thinned.nonzeros <= 49 && thinned.stage == 1, "{} left", thinned.nonzeros);
     }
 }

@@ -1,7 +1,8 @@
 //! Every refusal that a safe call can reach, and which of several is given; what is accepted at the edges.
 
 use knobthistle::{
-    discrepancy_coloring, max_margin_change, sparsify, sparsify_within, thin, turned_words, Job, Refusal, Rule, MAX_COLUMNS, MAX_ROWS,
+    discrepancy_coloring, max_margin_change, sparsify, sparsify_within, thin, turned_words, Edition, Job, Refusal, Rule, MAX_COLUMNS,
+    MAX_ROWS,
 };
 
 /// So many columns of so many entries of 0.5.
@@ -18,7 +19,7 @@ fn both(columns: &[Vec<f64>], weights: &[f64]) -> Result<(), Refusal> {
 
 #[test]
 fn numbers_names_and_words() {
-    assert_eq!(Refusal::ALL.map(Refusal::number), [1, 12, 2, 3, 4, 5, 6, 7, 8, 9, 11]);
+    assert_eq!(Refusal::ALL.map(Refusal::number), [1, 12, 2, 13, 3, 4, 5, 6, 7, 8, 9, 11]);
     for refusal in Refusal::ALL {
         assert!(!refusal.to_string().is_empty());
         let error: Box<dyn std::error::Error> = refusal.into();
@@ -76,7 +77,7 @@ fn the_largest_is_accepted() {
     let columns: Vec<Vec<f64>> =
         (0..MAX_COLUMNS).map(|j| (0..MAX_ROWS).map(|i| ((i * 31 + j * 17) % 29) as f64 / 14.0 - 1.0).collect()).collect();
     let weights = vec![1.0; MAX_COLUMNS];
-    let thinned = thin(&columns, &weights, Job { seed: 1, rule: Rule::Target(4) }).unwrap();
+    let thinned = thin(&columns, &weights, Job { seed: 1, edition: Edition::First, rule: Rule::Target(4) }).unwrap();
     assert!(thinned.nonzeros <= 4 && thinned.weights.len() == MAX_COLUMNS);
     let normalised = vec![1.0 / MAX_COLUMNS as f64; MAX_COLUMNS];
     assert_eq!(max_margin_change(&columns, &normalised, &thinned.weights), Ok(thinned.change));

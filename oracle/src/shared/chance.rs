@@ -4,6 +4,11 @@
 /// A seed whose first output is all ones: the first uniform is 1, its logarithm 0, and so the first Gaussian a zero.
 pub const ZERO_FIRST: u64 = 0x3162_8AF6_7B21_31AB;
 
+#[path = "splitmix.rs"]
+pub mod splitmix;
+
+use splitmix::{state_before, GAMMA};
+
 pub struct Chance(u64);
 
 impl Chance {
@@ -57,13 +62,21 @@ impl Chance {
         from[self.below(from.len())]
     }
 
-    /// A seed for a job: now and then one at the edge, or one whose first output is all zeros or all ones.
+    /// A seed for a job: now and then one at the edge, or one whose first output is all zeros or all ones, or one with a small draw.
     pub fn seed(&mut self) -> u64 {
-        if self.once_in(8) {
-            self.pick(&[0, 1, u64::MAX, 1 << 63, 0x61C8_8646_80B5_83EB, ZERO_FIRST])
-        } else {
-            self.word()
+        match self.below(8) {
+            0 => self.pick(&[0, 1, u64::MAX, 1 << 63, 0x61C8_8646_80B5_83EB, ZERO_FIRST]),
+            1 => self.small(),
+            _ => self.word(),
         }
+    }
+
+    /// A seed of whose first outputs one is small that goes into a logarithm: the uniforms of the two editions are as far apart there as
+    /// they can be. On almost every other seed both give the same colours.
+    pub fn small(&mut self) -> u64 {
+        let output = self.word() >> self.between(50, 63);
+        let draws_before = self.below(6) as u64;
+        state_before(output).wrapping_sub(GAMMA.wrapping_mul(2 * draws_before))
     }
 }
 

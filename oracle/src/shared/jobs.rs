@@ -1,5 +1,6 @@
-//! Thinning jobs: what the original says of them, and when document 01 refuses one.
+//! Thinning jobs: what the original says of them, and when the documents refuse one.
 
+use crate::draws;
 use crate::lent::scratch_sizes;
 use crate::original::{self, reach};
 use crate::tally::same;
@@ -10,13 +11,14 @@ pub enum Rule {
     Within(f64, Option<usize>),
 }
 
-/// A matrix, weights and a seed: what several jobs can share.
+/// A matrix, weights, a seed and an edition of the draw: what several jobs can share.
 pub struct Ensemble {
     pub matrix: Vec<f64>,
     pub m: usize,
     pub n: usize,
     pub weights: Vec<f64>,
     pub seed: u64,
+    pub edition: u32,
 }
 
 /// What the original says of a job.
@@ -33,6 +35,7 @@ pub struct Said {
 
 /// The stages of an ensemble by the original's pass, and where document 01 reads them.
 pub fn by_stages(columns: &[Vec<f64>], e: &Ensemble, rule: Rule) -> Said {
+    draws::by_edition(e.edition);
     let first = reach::normalized(columns, &e.weights);
     let measure = |w: &[f64]| original::max_margin_change(columns, &first, w);
     let mut generator = e.seed;
@@ -82,6 +85,7 @@ pub fn refusal(e: &Ensemble, rule: Rule, output: usize, numbers: usize, indices:
         (1, allowance_wrong),
         (12, infinite),
         (2, zero),
+        (13, e.edition != 1 && e.edition != 2),
         (3, e.m > 256 || e.n > 4096),
         (4, e.matrix.len() as u128 != e.m as u128 * e.n as u128 || e.weights.len() != e.m || output != e.m),
         (5, e.m == 0 || e.n == 0),

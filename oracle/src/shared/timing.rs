@@ -47,6 +47,7 @@ pub fn job(matrix: &[f64], m: usize, n: usize, weights: &[f64]) -> (f64, f64) {
             weights.as_ptr(),
             m,
             seed,
+            1,
             4,
             output.as_mut_ptr(),
             m,

@@ -21,8 +21,8 @@ Inv-loop num₀ blocked₀ x₀ free₀ u n cols scale places₀ subcols₀ subs
     subcols subscale subx subfree g r directions left =
     Roomy (length cols) num blocked x free 0 × (length num ≡ length num₀) × (length blocked ≡ length blocked₀) × (left ≡ freeOnes free)
     × Rooms places subcols subscale subx subfree g
-    × (walked plusZero (entryOf u n cols scale) (length cols) (length blocked₀) (r₀ .state)
-    ≡ onward plusZero (entryOf u n cols scale) (length cols) (length blocked₀) (between (length blocked₀) num x free (r .state) directions))
+    × (walked plusZero (entryOf u n cols scale) (length cols) (length blocked₀) r₀
+    ≡ onward plusZero (entryOf u n cols scale) (length cols) (length blocked₀) (between (length blocked₀) num x free r directions))
     × (directions + 2 * freeOnes free ≤ 2 * length cols)
 
 abbrev μ-loop : tie.MeasureT-loop
@@ -93,7 +93,7 @@ add-directions c =
       at-start .pre .0 .few,
       l .inv .6,
       walk-few plusZero (entryOf (a .u .now) (a .n) (a .cols .now) (a .scale .now)) (length (a .cols .now))
-          (length (a .blocked .now)) (between (length (a .blocked .now)) (l .num) (l .x) (l .free) (l .r .state) (l .directions)) _ step
+          (length (a .blocked .now)) (between (length (a .blocked .now)) (l .num) (l .x) (l .free) (l .r) (l .directions)) _ step
           (λ z. omega (arith, l .inv .3, at-loop-test .loop-test .taken)) (l .inv .0 .marks),
     )
 
@@ -115,7 +115,7 @@ loop-less c =
       c .count-free2 .ensures,
       l .inv .3,
       walk-falls plusZero (entryOf (a .u .now) (a .n) (a .cols .now) (a .scale .now)) (length (a .cols .now))
-          (length (a .blocked .now)) (between (length (a .blocked .now)) (l .num) (l .x) (l .free) (l .r .state) (l .directions)) _ step
+          (length (a .blocked .now)) (between (length (a .blocked .now)) (l .num) (l .x) (l .free) (l .r) (l .directions)) _ step
           (λ z. omega (arith, l .inv .3, at-loop-test .loop-test .taken)),
     )
 
@@ -143,13 +143,13 @@ loop-again c =
         g = kept .1 .1 .1 .1 .1 .1 .1 .1 .1 .1 .1 .1 .1 .1 .0 ∙ l .inv .4 .g;
       },
       l .inv .5 ∙ walk-turn plusZero (entryOf (a .u .now) (a .n) (a .cols .now) (a .scale .now)) (length (a .cols .now))
-          (length (a .blocked .now)) (between (length (a .blocked .now)) (l .num) (l .x) (l .free) (l .r .state) (l .directions)) _ step
+          (length (a .blocked .now)) (between (length (a .blocked .now)) (l .num) (l .x) (l .free) (l .r) (l .directions)) _ step
           (λ z. omega (arith, l .inv .3, at-loop-test .loop-test .taken)),
       omega (
         arith,
         l .inv .6,
         walk-few plusZero (entryOf (a .u .now) (a .n) (a .cols .now) (a .scale .now)) (length (a .cols .now))
-            (length (a .blocked .now)) (between (length (a .blocked .now)) (l .num) (l .x) (l .free) (l .r .state) (l .directions)) _ step
+            (length (a .blocked .now)) (between (length (a .blocked .now)) (l .num) (l .x) (l .free) (l .r) (l .directions)) _ step
             (λ z. omega (arith, l .inv .3, at-loop-test .loop-test .taken)) (l .inv .0 .marks),
       ),
     )
@@ -172,7 +172,7 @@ returns c =
     let a = at-start .args in
     let l = c .before .loop in
     sym (l .inv .5 ∙ walk-over plusZero (entryOf (a .u .now) (a .n) (a .cols .now) (a .scale .now)) (length (a .cols .now))
-    (length (a .blocked .now)) (between (length (a .blocked .now)) (l .num) (l .x) (l .free) (l .r .state) (l .directions)) (omega arith))
+    (length (a .blocked .now)) (between (length (a .blocked .now)) (l .num) (l .x) (l .free) (l .r) (l .directions)) (omega arith))
 
 pub walk-to-end-spec : {M : Type 1} → statement M
 walk-to-end-spec =

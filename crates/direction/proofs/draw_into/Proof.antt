@@ -11,7 +11,7 @@ use Rattle.direction.proofs.draw_into.Statement.{statement}
 use Rattle.direction.proofs.draw_into.Tie as tie
 
 abbrev Inv-loop : tie.InvT-loop
-Inv-loop g₀ r₀ i₀ g r i = Filled (drawAt (r₀ .state)) g₀ i g × (r .state ≡ afterDraws (r₀ .state) i)
+Inv-loop g₀ r₀ i₀ g r i = Filled (drawAt r₀) g₀ i g × (r ≡ afterDraws r₀ i)
 
 abbrev μ-loop : tie.MeasureT-loop
 μ-loop g₀ r₀ i₀ g r i = length g₀ - i
@@ -38,9 +38,9 @@ loop-less c = search needs
 loop-again : tie.Need-loop-again Inv-loop μ-loop
 unfolding drawAt afterDraws
 loop-again c =
-    let at-loop = c .before .before .before in (
-      turn (at-loop .loop .inv .0) (omega arith) (c .before .gaussian .ensures .0 ∙ rw (at-loop .loop .inv .1)),
-      c .before .gaussian .ensures .1 ∙ rw (add-one, at-loop .loop .inv .1),
+    let at-loop = c .before .before in (
+      turn (at-loop .loop .inv .0) (omega arith) (c .gaussian .ensures .0 ∙ rw (at-loop .loop .inv .1)),
+      c .gaussian .ensures .1 ∙ rw (add-one, at-loop .loop .inv .1),
     )
 
 same-length : tie.Need-same-length Inv-loop μ-loop

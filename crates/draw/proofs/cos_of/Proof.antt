@@ -13,7 +13,7 @@ uniform-of-requires : tie.Need-uniform-of-requires
 uniform-of-requires c κs = search needs
 
 cos-requires : tie.Need-cos-requires
-cos-requires c κs = rw (c .uniform-of .ensures) (angle-bits (output-drawn (c .before .args .word) (omega arith)))
+cos-requires c κs = rw (c .uniform-of .ensures) (angle-bits (output-drawn (c .before .args .edition) (c .before .args .word) (omega arith)))
 
 returns : tie.Need-returns
 returns c = c .cos .ensures ∙ ap (λ (u : Float). cosOf (mul binary64 tau u)) (c .before .uniform-of .ensures)

@@ -12,7 +12,7 @@ uniform-of-requires : tie.Need-uniform-of-requires
 uniform-of-requires c κs = search needs
 
 ln-requires : tie.Need-ln-requires
-ln-requires c κs = rw (c .uniform-of .ensures) (draw-bits (output-drawn (c .before .args .word) (omega arith)))
+ln-requires c κs = rw (c .uniform-of .ensures) (draw-bits (output-drawn (c .before .args .edition) (c .before .args .word) (omega arith)))
 
 returns : tie.Need-returns
 returns c = c .ln .ensures ∙ ap lnOf (c .before .uniform-of .ensures)

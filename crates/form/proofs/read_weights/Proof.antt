@@ -1,7 +1,6 @@
--- `form::read_weights` meets its contract: the loop fills the weights, and every place is small enough.
+-- `form::read_weights` meets its contract: the loop fills the weights.
 use Rattle.seq.proofs.Filling.{Filled, start, turn, whole}
 use Rattle.form.specs.Reading.{doubleAt, weightPlace}
-use Rattle.form.proofs.Rooms.{column-room}
 use borrow.Author.Needs.{needs}
 use Prim.Native.Nat.{_-_}
 use native.Mathlib.Omega.{arith}
@@ -18,23 +17,8 @@ abbrev μ-loop : tie.MeasureT-loop
 loop-holds : tie.Need-loop-holds Inv-loop μ-loop
 loop-holds c = start _ _
 
-mul-bits-at : tie.Need-mul-bits-at Inv-loop μ-loop
-mul-bits-at c = search needs
-
-add-bits-at : tie.Need-add-bits-at Inv-loop μ-loop
-add-bits-at c = search needs
-
-mul-bits-at-2 : tie.Need-mul-bits-at-2 Inv-loop μ-loop
-mul-bits-at-2 c = omega (arith, column-room (c .before .loop .j) (c .before .before .before .before .args .n) (omega arith) (omega arith))
-
-add-bits-at-2 : tie.Need-add-bits-at-2 Inv-loop μ-loop
-add-bits-at-2 c = omega (arith, column-room (c .before .loop .j) (c .before .before .before .before .args .n) (omega arith) (omega arith))
-
-add-bits-at-3 : tie.Need-add-bits-at-3 Inv-loop μ-loop
-add-bits-at-3 c = omega (arith, column-room (c .before .loop .j) (c .before .before .before .before .args .n) (omega arith) (omega arith))
-
-bits-at-requires : tie.Need-bits-at-requires Inv-loop μ-loop
-bits-at-requires c κs = omega (arith, column-room (c .before .loop .j) (c .before .before .before .before .args .n) (omega arith) (omega arith))
+weight-bits-requires : tie.Need-weight-bits-requires Inv-loop μ-loop
+weight-bits-requires c κs = search needs
 
 double-requires : tie.Need-double-requires Inv-loop μ-loop
 double-requires c κs = search needs
@@ -52,7 +36,7 @@ loop-less : tie.Need-loop-less Inv-loop μ-loop
 loop-less c = search needs
 
 loop-again : tie.Need-loop-again Inv-loop μ-loop
-loop-again c = turn (c .before .before .before .loop .inv) (omega arith) (rw (c .double .ensures, c .before .bits-at .ensures))
+loop-again c = turn (c .before .before .before .loop .inv) (omega arith) (rw (c .double .ensures, c .before .weight-bits .ensures))
 
 same-length : tie.Need-same-length Inv-loop μ-loop
 same-length c = search needs
@@ -67,12 +51,7 @@ read-weights-spec =
     Inv-loop
     μ-loop
     loop-holds
-    mul-bits-at
-    add-bits-at
-    mul-bits-at-2
-    add-bits-at-2
-    add-bits-at-3
-    bits-at-requires
+    weight-bits-requires
     double-requires
     mul-weights
     slice-write-weights

@@ -24,7 +24,7 @@ same-length c = search needs
 returns : tie.Need-returns
 returns c =
     let a = c .before .before .before .before .before .before .before .before .before .before .args in
-    halve-none (columnsOf (a .matrix .now) (a .n)) (a .n) (a .w .now) (a .omega) (a .rest .now) (a .rng .state)
+    halve-none (columnsOf (a .matrix .now) (a .n)) (a .n) (a .w .now) (a .omega) (a .rest .now) (a .rng)
     (c .before .before .remaining-into .ensures .long ∙ c .if1 .taken)
 
 array-share-prefix-some : tie.Need-array-share-prefix-some
@@ -74,7 +74,7 @@ returns-2 c =
     let at-start = at-remaining-into .before .before .before .before .before .before .before .before in
     let a = at-start .args in
     let p = at-remaining-into .remaining-into .ensures in
-    halve-some (columnsOf (a .matrix .now) (a .n)) (a .n) (a .w .now) (a .omega) (a .rest .now) (a .rng .state)
+    halve-some (columnsOf (a .matrix .now) (a .n)) (a .n) (a .w .now) (a .omega) (a .rest .now) (a .rng)
     (λ e. at-if1 .if1 .left (sym (p .long) ∙ e)) _ _ (rw (p .front) at (at-halve-some .halve-some .ensures))
 
 pub halve-spec : {M : Type 1} → statement M

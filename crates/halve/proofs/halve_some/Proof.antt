@@ -67,7 +67,7 @@ returns c =
     let a = at-start .args in
     let v = at-start .pre in
     let d = at-coloring .coloring in
-    halved-by (a .matrix .now) (a .n) (a .w .now) (a .omega) (a .some .now) (v .whole) (v .inside .below) (a .rng .state) _ _ _ _
+    halved-by (a .matrix .now) (a .n) (a .w .now) (a .omega) (a .some .now) (v .whole) (v .inside .below) (a .rng) _ _ _ _
     _ _ (at-scales-into .scales-into .ensures) (v .rows) (d .ensures .colours) (d .ensures .draws)
     (at-sigma-of .sigma-of .ensures) (at-double-or-zero .double-or-zero .ensures)
 

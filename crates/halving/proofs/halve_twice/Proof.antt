@@ -63,7 +63,7 @@ returns c =
     let at-abs = at-halve .before .before .before .before in
     let at-start = at-abs .before .before .before .before .before .before .before .before in
     let a = at-start .args in
-    pass-holds (columnsOf (a .matrix .now) (a .n)) (a .n) (a .w .now) _ _ _ (a .rest .now) (at-abs .abs .result) (a .rng .state) _ _
+    pass-holds (columnsOf (a .matrix .now) (a .n)) (a .n) (a .w .now) _ _ _ (a .rest .now) (at-abs .abs .result) (a .rng) _ _
     (at-start .pre .1) (at-abs .abs .ensures) (at-halve .halve .ensures) (at-halve2 .halve2 .ensures) (at-normalize .normalize .ensures)
 
 pub halve-twice-spec : {M : Type 1} → statement M

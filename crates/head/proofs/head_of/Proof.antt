@@ -29,26 +29,22 @@ add-rule-at c = omega (arith, next-sizes _ _ _ (c .before .before .before .befor
 rule-at-requires : tie.Need-rule-at-requires
 rule-at-requires c κs = omega (arith, next-sizes _ _ _ (c .before .before .before .before .sizes-at .ensures))
 
-byte-at-requires-2 : tie.Need-byte-at-requires-2
-byte-at-requires-2 c κs = search needs
-
-add-t13 : tie.Need-add-t13
-add-t13 c = omega (
-  arith,
-  next-sizes _ _ _ (c .before .before .before .before .before .before .before .before .before .before .sizes-at .ensures),
-  next-rule _ _ _ (c .before .before .before .before .before .rule-at .ensures),
-)
+edition-at-requires : tie.Need-edition-at-requires
+edition-at-requires c κs =
+    let at-rule-at = c in
+    let at-sizes-at = at-rule-at .before .before .before .before .before in
+    omega (arith, next-sizes _ _ _ (at-sizes-at .sizes-at .ensures), next-rule _ _ _ (at-rule-at .rule-at .ensures))
 
 returns : tie.Need-returns
 returns c =
-    let at-byte-at2 = c .before .before .before .before in
-    let at-rule-at = at-byte-at2 .before in
+    let at-edition-at = c .before .before .before .before in
+    let at-rule-at = at-edition-at .before in
     let at-byte-at = at-rule-at .before .before in
     let at-bits-at = at-byte-at .before .before in
     let at-sizes-at = at-bits-at .before in
     let at-spells = at-sizes-at .before in
     head-is _ _ _ _ _ _ _ (at-spells .spells .ensures) (at-sizes-at .sizes-at .ensures) (at-bits-at .bits-at .ensures)
-    (at-byte-at .byte-at .ensures) (at-rule-at .rule-at .ensures) (at-byte-at2 .byte-at2 .ensures)
+    (at-byte-at .byte-at .ensures) (at-rule-at .rule-at .ensures) (at-edition-at .edition-at .ensures)
 
 pub head-of-spec : {M : Type 1} → statement M
 head-of-spec =
@@ -62,6 +58,5 @@ head-of-spec =
     byte-at-requires
     add-rule-at
     rule-at-requires
-    byte-at-requires-2
-    add-t13
+    edition-at-requires
     returns)

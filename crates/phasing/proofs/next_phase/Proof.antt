@@ -168,7 +168,7 @@ returns c = λ d.
     .before .before .before .before in
     let a = start .args in
     phase-rounds (entryOf (a .u .now) (a .n) (a .cols .now) (a .scale .now)) (length (a .cols .now)) (length (a .blocked .now))
-    (a .rng .state) (a .num .now) (a .x .now) (a .free .now) _ _ _ _ _
+    (a .rng) (a .num .now) (a .x .now) (a .free .now) _ _ _ _ _
     (at-free-places .free-places .ensures .front ∙ ap (keep (isSet (a .free .now))) (start .pre .0 .1 .marks))
     (at-phase-on .phase-on .ensures) d _ _ (at-if1 .if1 .taken) (at-round-free .round-free .ensures)
     (c .before .before .fill-words .ensures)
@@ -216,7 +216,7 @@ returns-2 c = λ d.
     .before .before .before .before in
     let a = start .args in
     phase-goes (entryOf (a .u .now) (a .n) (a .cols .now) (a .scale .now)) (length (a .cols .now)) (length (a .blocked .now))
-    (a .rng .state) (a .num .now) (a .x .now) (a .free .now) _ _ _ _ _
+    (a .rng) (a .num .now) (a .x .now) (a .free .now) _ _ _ _ _
     (at-free-places .free-places .ensures .front ∙ ap (keep (isSet (a .free .now))) (start .pre .0 .1 .marks))
     (at-phase-on .phase-on .ensures) d (c .if1 .left)
 

@@ -97,7 +97,7 @@ returns c =
     let at-choose = at-choose2 .before .before .before .before .before in
     let at-choose-words = at-choose .before .before .before .before in
     let a = at-choose-words .before .before .before .before .before .before .before .before .before .before .before .before .before .before .before .args in
-    phased-at (a .u .now) (a .n) (a .cols .now) (a .scale .now) (a .places .now) (length (a .blocked .now)) (a .rng .state)
+    phased-at (a .u .now) (a .n) (a .cols .now) (a .scale .now) (a .places .now) (length (a .blocked .now)) (a .rng)
     (a .num .now) (a .x .now) (a .free .now)
     _ _ _ (at-choose-words .choose-words .ensures) (at-choose .choose .ensures) (at-choose2 .choose2 .ensures)
     (at-phase .phase .ensures) (at-phase .phase .kept .1 .0)

@@ -33,7 +33,7 @@ returns c =
     let at-put-answer = c .before .before in
     let at-thin = at-put-answer .before .before .before .before .before .before .before in
     let at-start = at-thin .before .before .before .before .before .before .before .before in
-    job-wrote _ _ _ (at-start .pre .0) (at-start .pre .1) (at-start .pre .2) (at-start .pre .3) (at-start .pre .4) refl refl
+    job-wrote _ _ _ (at-start .pre .6) (at-start .pre .0) (at-start .pre .1) (at-start .pre .2) (at-start .pre .3) (at-start .pre .4) refl refl
     (at-thin .thin .ensures) (at-put-answer .put-answer .ensures)
 
 pub answer-job-spec : {M : Type 1} → statement M

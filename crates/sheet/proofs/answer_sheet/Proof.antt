@@ -82,6 +82,7 @@ answer-job-requires c κs =
           (omega (arith, at-start .pre .0))),
       length-take-le _ _ (omega (arith, at-start .pre .0)),
       at-start .pre .3,
+      at-start .pre .4,
     )
 
 same-length : tie.Need-same-length

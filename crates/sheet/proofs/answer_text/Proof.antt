@@ -1,5 +1,5 @@
 -- `sheet::answer_text` meets its contract: a wrong line is named, and a sheet with none has the sizes that its job asks for.
-use Rattle.sheet.proofs.Whole.{sizes-of, sheet-bad, sheet-good}
+use Rattle.sheet.proofs.Whole.{sizes-of, edition-known, sheet-bad, sheet-good}
 use Rattle.fields.proofs.Widths.{width-most}
 use borrow.Author.Needs.{needs}
 use Prim.Native.Nat.{_-_}
@@ -38,7 +38,7 @@ answer-sheet-requires c κs =
     let at-start = at-wrong-line .before .before .before in
     let s = sizes-of (at-start .args .text .now) (c .head-of .result) (at-wrong-line .wrong-line .result)
     (at-wrong-line .wrong-line .ensures) (at-if1 .if1 .left) (c .head-of .ensures) in
-    (s .columns, s .rows, omega (arith, s .starts), at-start .pre)
+    (s .columns, s .rows, omega (arith, s .starts), at-start .pre, rw (c .head-of .ensures) (edition-known (at-start .args .text .now)))
 
 same-length-2 : tie.Need-same-length-2
 same-length-2 c = search needs

@@ -4,6 +4,7 @@ use mathlib.Core.Path.{sym, _∙_}
 use native.Mathlib.Omega.{arith}
 use lib.ListN.{length}
 use lib.Seq.{length-take-le}
+use Rattle.draw.specs.SplitMix.{seeded}
 use Rattle.sparsification.proofs.Accepting.{accepted, values-fine}
 use Rattle.sparsification.proofs.Finishing.{thinned-refused, thinned-from, ready-of}
 use Rattle.sparsification.proofs.thin.Statement.{statement}
@@ -21,7 +22,8 @@ returns c =
     let at-fault = at-test .before in
     let at-start = at-fault .before .before .before .before .before .before in
     let a = at-start .args in
-    thinned-refused (a .job .rule) (a .job .seed) (a .matrix .now) (a .m) (a .n) (a .weights .now) (a .output .now) (a .numbers .now) (a .indices .now)
+    thinned-refused (a .job .rule) (seeded (a .job .seed) (a .job .edition)) (a .matrix .now) (a .m) (a .n) (a .weights .now)
+    (a .output .now) (a .numbers .now) (a .indices .now)
     (at-fault .job-fault .result) (c .refused .result) (at-fault .job-fault .ensures) (at-test .if1 .taken) (c .refused .ensures)
 
 array-borrow-prefix-start : tie.Need-array-borrow-prefix-start
@@ -29,7 +31,7 @@ array-borrow-prefix-start c =
     let at-fault = c .before in
     let at-start = at-fault .before .before .before .before .before .before in
     let a = at-start .args in
-    let s = accepted (a .job .rule) (a .matrix .now) (a .m) (a .n) (a .weights .now) (length (a .output .now)) (length (a .numbers .now))
+    let s = accepted (a .job .rule) (a .job .edition) (a .matrix .now) (a .m) (a .n) (a .weights .now) (length (a .output .now)) (length (a .numbers .now))
     (length (a .indices .now)) (sym (at-fault .job-fault .ensures) ∙ c .if1 .left) in
     omega (arith, s .sized .few)
 
@@ -39,21 +41,24 @@ slice-aggregate-thin-sound c =
     let at-fault = at-test .before in
     let at-start = at-fault .before .before .before .before .before .before in
     let a = at-start .args in
-    let s = accepted (a .job .rule) (a .matrix .now) (a .m) (a .n) (a .weights .now) (length (a .output .now)) (length (a .numbers .now))
+    let s = accepted (a .job .rule) (a .job .edition) (a .matrix .now) (a .m) (a .n) (a .weights .now) (length (a .output .now)) (length (a .numbers .now))
     (length (a .indices .now)) (sym (at-fault .job-fault .ensures) ∙ at-test .if1 .left) in
     sym (length-take-le _ _ (omega (arith, s .sized .few)))
 
+new-requires : tie.Need-new-requires
+new-requires c κs = search needs
+
 thin-sound-requires : tie.Need-thin-sound-requires
 thin-sound-requires c κs =
-    let at-test = c .before .before .before .before in
+    let at-test = c .before .before .before .before .before in
     let at-fault = at-test .before in
     let at-start = at-fault .before .before .before .before .before .before in
     let a = at-start .args in
     let none = sym (at-fault .job-fault .ensures) ∙ at-test .if1 .left in
-    let s = accepted (a .job .rule) (a .matrix .now) (a .m) (a .n) (a .weights .now) (length (a .output .now)) (length (a .numbers .now))
+    let s = accepted (a .job .rule) (a .job .edition) (a .matrix .now) (a .m) (a .n) (a .weights .now) (length (a .output .now)) (length (a .numbers .now))
     (length (a .indices .now)) none in (
       ready-of (a .matrix .now) (a .m) (a .n) (a .weights .now) (a .output .now) (a .numbers .now) (a .indices .now) (s .sized) (s .valued .entries),
-      values-fine (a .job .rule) (a .matrix .now) (a .m) (a .n) (a .weights .now) _ _ _ none,
+      values-fine (a .job .rule) (a .job .edition) (a .matrix .now) (a .m) (a .n) (a .weights .now) _ _ _ none,
       length-take-le _ _ (omega (arith, s .sized .few)) ∙ sym (s .sized .given),
       s .sized .left ∙ sym (s .sized .given),
       s .ruled,
@@ -71,12 +76,14 @@ same-length-3 c = search needs
 returns-2 : tie.Need-returns-2
 returns-2 c =
     let at-thin = c .before .before .before .before .before .before .before in
-    let at-test = at-thin .before .before .before .before .before in
+    let at-new = at-thin .before .before .before .before in
+    let at-test = at-new .before .before in
     let at-fault = at-test .before in
     let at-start = at-fault .before .before .before .before .before .before in
     let a = at-start .args in
-    thinned-from (a .job .rule) (a .job .seed) (a .matrix .now) (a .m) (a .n) (a .weights .now) (a .output .now) (a .numbers .now) (a .indices .now)
-    (sym (at-fault .job-fault .ensures) ∙ at-test .if1 .left) (at-thin .thin-sound .result) _ _ _ (at-thin .thin-sound .ensures)
+    thinned-from (a .job .rule) (seeded (a .job .seed) (a .job .edition)) (a .matrix .now) (a .m) (a .n) (a .weights .now)
+    (a .output .now) (a .numbers .now) (a .indices .now)
+    (sym (at-fault .job-fault .ensures) ∙ at-test .if1 .left) (at-thin .thin-sound .result) _ _ _ (rw (at-new .new .ensures) at (at-thin .thin-sound .ensures))
 
 pub thin-spec : {M : Type 1} → statement M
 thin-spec =
@@ -87,6 +94,7 @@ thin-spec =
     returns
     array-borrow-prefix-start
     slice-aggregate-thin-sound
+    new-requires
     thin-sound-requires
     same-length
     same-length-2

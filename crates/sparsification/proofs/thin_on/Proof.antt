@@ -60,7 +60,7 @@ returns c =
     let at-start = at-copy .before .before .before .before .before .before .before .before in
     let a = at-start .args in
     let k = at-follow .follow .kept in
-    done-from (columnsOf (a .matrix .now) (a .n)) (a .n) (a .start .now) (a .seed) (a .rule) (at-copy .copy .ensures) (at-follow .follow .ensures)
+    done-from (columnsOf (a .matrix .now) (a .n)) (a .n) (a .start .now) (a .source) (a .rule) (at-copy .copy .ensures) (at-follow .follow .ensures)
     (a .numbers .now) _ (a .indices .now) _ (c .answer-for .result) (c .answer-for .ensures)
     (at-numbers .clear .ensures ∙ ap (repeated plusZero) (k .1 .1 .1 .1 .1 .0))
     (at-words .clear-words .ensures ∙ ap (repeated 0) (k .1 .1 .1 .1 .1 .1 .0))

@@ -26,18 +26,15 @@ use Rattle.stages.proofs.to_allowance.Statement.{statement}
 use Rattle.stages.proofs.to_allowance.Tie as tie
 
 abbrev Inv-loop : tie.InvT-loop
-Inv-loop matrix n start w₀ next₀ numbers₀ indices₀ seed allowance cap rng₀ stage₀ counts₀ change₀ left₀ w next numbers indices rng stage counts change left =
-    OnPath (columnsOf matrix n) n start seed (Within allowance cap) stage w (rng .state) × Falls plusZero (columnsOf matrix n) n start seed
-    × Written (columnsOf matrix n) n start seed stage counts change × (left ≡ nonzeros w)
-    × (closes (columnsOf matrix n) n start seed allowance cap stage ≡ false)
+Inv-loop matrix n start w₀ next₀ numbers₀ indices₀ allowance cap source stage₀ counts₀ change₀ left₀ w next numbers indices rng stage counts change left =
+    OnPath (columnsOf matrix n) n start source (Within allowance cap) stage w rng × Falls plusZero (columnsOf matrix n) n start source
+    × Written (columnsOf matrix n) n start source stage counts change × (left ≡ nonzeros w)
+    × (closes (columnsOf matrix n) n start source allowance cap stage ≡ false)
     × (length next ≡ length next₀) × (length numbers ≡ length numbers₀) × (length indices ≡ length indices₀)
 
 abbrev μ-loop : tie.MeasureT-loop
-μ-loop matrix n start w₀ next₀ numbers₀ indices₀ seed allowance cap rng₀ stage₀ counts₀ change₀ left₀ w next numbers indices rng stage counts change left =
+μ-loop matrix n start w₀ next₀ numbers₀ indices₀ allowance cap source stage₀ counts₀ change₀ left₀ w next numbers indices rng stage counts change left =
     nonzeros w
-
-new-requires : tie.Need-new-requires Inv-loop μ-loop
-new-requires c κs = search needs
 
 count-nonzeros-requires : tie.Need-count-nonzeros-requires Inv-loop μ-loop
 count-nonzeros-requires c κs = search needs
@@ -50,7 +47,7 @@ array-write-nonzeros c = search needs
 
 change-of-requires : tie.Need-change-of-requires Inv-loop μ-loop
 change-of-requires c κs =
-    let at-start = c .before .before .before .before .before .before .before .before .before .before in
+    let at-start = c .before .before .before .before .before .before .before .before .before in
     let same = ap length (at-start .pre .2) in
     (lent-of (at-start .args .start .now) (at-start .pre .0) (sym same), same)
 
@@ -64,23 +61,22 @@ loop-holds : tie.Need-loop-holds Inv-loop μ-loop
 unfolding tabulate
 loop-holds c =
     let at-count = c .before .before in
-    let at-new = at-count .before .before in
-    let at-known = at-new .before .before .before .before .before in
+    let at-known = at-count .before .before .before .before .before .before in
     let at-start = at-known .before .before in
     let a = at-start .args in
     let same = at-start .pre .2 in
     let few = at-start .pre .0 .few in
     let small : bounded one (a .start .now) ≡ true = rw same at (at-start .pre .1) in
-    let on = on-start (columnsOf (a .matrix .now) (a .n)) (a .n) (a .start .now) (a .seed) (omega (arith, few, ap length same))
+    let on = on-start (columnsOf (a .matrix .now) (a .n)) (a .n) (a .start .now) (a .source) (omega (arith, few, ap length same))
     (Within (a .allowance) (a .cap)) in (
-      rw (same, at-new .new .ensures) on,
-      falling (columnsOf (a .matrix .now) (a .n)) (a .n) (a .start .now) (a .seed)
+      rw same on,
+      falling (columnsOf (a .matrix .now) (a .n)) (a .n) (a .start .now) (a .source)
           (normal-bounded (a .start .now) (λ j l. at-known .shared-slice-known2 .given j) small) (omega (arith, few, ap length same)),
-      note-first (columnsOf (a .matrix .now) (a .n)) (a .n) (a .start .now) (a .seed) (omega (arith, few, ap length same))
+      note-first (columnsOf (a .matrix .now) (a .n)) (a .n) (a .start .now) (a .source) (omega (arith, few, ap length same))
           (at-count .count-nonzeros .ensures ∙ ap nonzeros same)
           (c .change-of .ensures ∙ ap (maxChange (columnsOf (a .matrix .now) (a .n)) (length (a .start .now)) (a .n) (a .start .now)) same),
       at-count .count-nonzeros .ensures,
-      opens (columnsOf (a .matrix .now) (a .n)) (a .n) (a .start .now) (a .seed) (a .allowance) (a .cap),
+      opens (columnsOf (a .matrix .now) (a .n)) (a .n) (a .start .now) (a .source) (a .allowance) (a .cap),
       refl,
       refl,
       refl,
@@ -90,7 +86,7 @@ try-pass-requires : tie.Need-try-pass-requires Inv-loop μ-loop
 try-pass-requires c κs =
     let at-test = c .before .before .before .before in
     let at-loop = at-test .before in
-    let at-start = at-loop .before .before .before .before .before .before .before .before .before .before .before .before in
+    let at-start = at-loop .before .before .before .before .before .before .before .before .before .before .before in
     let inv = at-loop .loop .inv in
     let same = ap length (at-start .pre .2) in
     let long = inv .0 .long in (
@@ -140,12 +136,12 @@ loop-less c =
     let at-try = at-taken .before .before .before .before .before .before .before .before .before .before in
     let at-test = at-try .before .before .before .before .before in
     let at-loop = at-test .before in
-    let at-start = at-loop .before .before .before .before .before .before .before .before .before .before .before .before in
+    let at-start = at-loop .before .before .before .before .before .before .before .before .before .before .before in
     let a = at-start .args in
     let inv = at-loop .loop .inv in
     let some : 1 < nonzeros (at-loop .loop .w) = omega (arith, inv .3, at-test .loop-test .taken) in
     let taken = not-false (at-try .try-pass .result .taken) (at-taken .if1 .left) in
-    allowance-fewer (columnsOf (a .matrix .now) (a .n)) (a .n) (a .start .now) (a .seed) (inv .1) (at-start .pre .4) (inv .0) (inv .4) some
+    allowance-fewer (columnsOf (a .matrix .now) (a .n)) (a .n) (a .start .now) (a .source) (inv .1) (at-start .pre .4) (inv .0) (inv .4) some
     (at-try .try-pass .ensures) taken
 
 loop-again : tie.Need-loop-again Inv-loop μ-loop
@@ -156,23 +152,23 @@ loop-again c =
     let at-try = at-taken .before .before .before .before .before .before .before .before .before .before in
     let at-test = at-try .before .before .before .before .before in
     let at-loop = at-test .before in
-    let at-start = at-loop .before .before .before .before .before .before .before .before .before .before .before .before in
+    let at-start = at-loop .before .before .before .before .before .before .before .before .before .before .before in
     let a = at-start .args in
     let inv = at-loop .loop .inv in
     let k = at-try .try-pass .kept in
     let some : 1 < nonzeros (at-loop .loop .w) = omega (arith, inv .3, at-test .loop-test .taken) in
     let taken = not-false (at-try .try-pass .result .taken) (at-taken .if1 .left) in
     let more = not-false (at-try .try-pass .result .more) (at-more .if2 .left) in
-    let on = allowance-on (columnsOf (a .matrix .now) (a .n)) (a .n) (a .start .now) (a .seed) (inv .1) (at-start .pre .4) (inv .0) (inv .4) some
+    let on = allowance-on (columnsOf (a .matrix .now) (a .n)) (a .n) (a .start .now) (a .source) (inv .1) (at-start .pre .4) (inv .0) (inv .4) some
     (at-try .try-pass .ensures) taken in (
       on,
       inv .1,
-      note (columnsOf (a .matrix .now) (a .n)) (a .n) (a .start .now) (a .seed) on (at-count .count-nonzeros2 .ensures)
-          (measured (columnsOf (a .matrix .now) (a .n)) (a .n) (a .start .now) (a .seed) (inv .1) (at-start .pre .4) (inv .0) (inv .4) some
+      note (columnsOf (a .matrix .now) (a .n)) (a .n) (a .start .now) (a .source) on (at-count .count-nonzeros2 .ensures)
+          (measured (columnsOf (a .matrix .now) (a .n)) (a .n) (a .start .now) (a .source) (inv .1) (at-start .pre .4) (inv .0) (inv .4) some
           (at-try .try-pass .ensures) taken)
           (inv .2 .counts) (inv .2 .moves),
       at-count .count-nonzeros2 .ensures,
-      allowance-goes (columnsOf (a .matrix .now) (a .n)) (a .n) (a .start .now) (a .seed) (inv .1) (at-start .pre .4) (inv .0) (inv .4) some
+      allowance-goes (columnsOf (a .matrix .now) (a .n)) (a .n) (a .start .now) (a .source) (inv .1) (at-start .pre .4) (inv .0) (inv .4) some
           (at-try .try-pass .ensures) taken more,
       k .1 .1 .1 .1 .0 ∙ inv .5,
       k .1 .1 .1 .1 .1 .0 ∙ inv .6,
@@ -182,7 +178,7 @@ loop-again c =
 same-length : tie.Need-same-length Inv-loop μ-loop
 same-length c =
     let at-loop = c .before in
-    let at-start = at-loop .before .before .before .before .before .before .before .before .before .before .before .before in
+    let at-start = at-loop .before .before .before .before .before .before .before .before .before .before .before in
     at-loop .loop .inv .0 .long ∙ sym (ap length (at-start .pre .2))
 
 same-length-2 : tie.Need-same-length-2 Inv-loop μ-loop
@@ -197,19 +193,19 @@ same-length-4 c = search needs
 returns : tie.Need-returns Inv-loop μ-loop
 returns c =
     let at-loop = c .before in
-    let at-start = at-loop .before .before .before .before .before .before .before .before .before .before .before .before in
+    let at-start = at-loop .before .before .before .before .before .before .before .before .before .before .before in
     let a = at-start .args in
     let inv = at-loop .loop .inv in
     rw (at-start .pre .2)
-    (allowance-met (columnsOf (a .matrix .now) (a .n)) (a .n) (a .start .now) (a .seed) (inv .1) (at-start .pre .4) (inv .0)
+    (allowance-met (columnsOf (a .matrix .now) (a .n)) (a .n) (a .start .now) (a .source) (inv .1) (at-start .pre .4) (inv .0)
     (omega (arith, inv .3, c .loop-test .left))
-    (noted (columnsOf (a .matrix .now) (a .n)) (a .n) (a .start .now) (a .seed) (inv .0 .near) (inv .2) _ refl refl refl))
+    (noted (columnsOf (a .matrix .now) (a .n)) (a .n) (a .start .now) (a .source) (inv .0 .near) (inv .2) _ refl refl refl))
 
 same-length-5 : tie.Need-same-length-5 Inv-loop μ-loop
 same-length-5 c =
     let at-try = c .before .before .before .before .before .before .before .before .before .before in
     let at-loop = at-try .before .before .before .before .before .before in
-    let at-start = at-loop .before .before .before .before .before .before .before .before .before .before .before .before in
+    let at-start = at-loop .before .before .before .before .before .before .before .before .before .before .before in
     at-try .try-pass .kept .1 .1 .1 .0 ∙ at-loop .loop .inv .0 .long ∙ sym (ap length (at-start .pre .2))
 
 same-length-6 : tie.Need-same-length-6 Inv-loop μ-loop
@@ -226,21 +222,21 @@ returns-2 c =
     let at-try = c .before .before .before .before .before .before .before .before .before .before in
     let at-test = at-try .before .before .before .before .before in
     let at-loop = at-test .before in
-    let at-start = at-loop .before .before .before .before .before .before .before .before .before .before .before .before in
+    let at-start = at-loop .before .before .before .before .before .before .before .before .before .before .before in
     let a = at-start .args in
     let inv = at-loop .loop .inv in
     let some : 1 < nonzeros (at-loop .loop .w) = omega (arith, inv .3, at-test .loop-test .taken) in
     let left = not-true (at-try .try-pass .result .taken) (c .if1 .taken) in
     rw (at-start .pre .2)
-    (allowance-left (columnsOf (a .matrix .now) (a .n)) (a .n) (a .start .now) (a .seed) (inv .1) (at-start .pre .4) (inv .0) (inv .4) some
+    (allowance-left (columnsOf (a .matrix .now) (a .n)) (a .n) (a .start .now) (a .source) (inv .1) (at-start .pre .4) (inv .0) (inv .4) some
     (at-try .try-pass .ensures) left
-    (noted (columnsOf (a .matrix .now) (a .n)) (a .n) (a .start .now) (a .seed) (inv .0 .near) (inv .2) _ refl refl refl))
+    (noted (columnsOf (a .matrix .now) (a .n)) (a .n) (a .start .now) (a .source) (inv .0 .near) (inv .2) _ refl refl refl))
 
 same-length-9 : tie.Need-same-length-9 Inv-loop μ-loop
 same-length-9 c =
     let at-try = c .before .before .before .before .before .before .before .before .before .before .before .before .before .before in
     let at-loop = at-try .before .before .before .before .before .before in
-    let at-start = at-loop .before .before .before .before .before .before .before .before .before .before .before .before in
+    let at-start = at-loop .before .before .before .before .before .before .before .before .before .before .before in
     at-try .try-pass .kept .1 .1 .1 .0 ∙ at-loop .loop .inv .0 .long ∙ sym (ap length (at-start .pre .2))
 
 same-length-10 : tie.Need-same-length-10 Inv-loop μ-loop
@@ -259,22 +255,22 @@ returns-3 c =
     let at-try = at-taken .before .before .before .before .before .before .before .before .before .before in
     let at-test = at-try .before .before .before .before .before in
     let at-loop = at-test .before in
-    let at-start = at-loop .before .before .before .before .before .before .before .before .before .before .before .before in
+    let at-start = at-loop .before .before .before .before .before .before .before .before .before .before .before in
     let a = at-start .args in
     let inv = at-loop .loop .inv in
     let some : 1 < nonzeros (at-loop .loop .w) = omega (arith, inv .3, at-test .loop-test .taken) in
     let taken = not-false (at-try .try-pass .result .taken) (at-taken .if1 .left) in
     let last = not-true (at-try .try-pass .result .more) (c .if2 .taken) in
-    let on = allowance-on (columnsOf (a .matrix .now) (a .n)) (a .n) (a .start .now) (a .seed) (inv .1) (at-start .pre .4) (inv .0) (inv .4) some
+    let on = allowance-on (columnsOf (a .matrix .now) (a .n)) (a .n) (a .start .now) (a .source) (inv .1) (at-start .pre .4) (inv .0) (inv .4) some
     (at-try .try-pass .ensures) taken in
-    let path = note (columnsOf (a .matrix .now) (a .n)) (a .n) (a .start .now) (a .seed) on (at-count .count-nonzeros2 .ensures)
-    (measured (columnsOf (a .matrix .now) (a .n)) (a .n) (a .start .now) (a .seed) (inv .1) (at-start .pre .4) (inv .0) (inv .4) some
+    let path = note (columnsOf (a .matrix .now) (a .n)) (a .n) (a .start .now) (a .source) on (at-count .count-nonzeros2 .ensures)
+    (measured (columnsOf (a .matrix .now) (a .n)) (a .n) (a .start .now) (a .source) (inv .1) (at-start .pre .4) (inv .0) (inv .4) some
     (at-try .try-pass .ensures) taken)
     (inv .2 .counts) (inv .2 .moves) in
     rw (at-start .pre .2)
-    (allowance-last (columnsOf (a .matrix .now) (a .n)) (a .n) (a .start .now) (a .seed) (inv .1) (at-start .pre .4) (inv .0) (inv .4) some
+    (allowance-last (columnsOf (a .matrix .now) (a .n)) (a .n) (a .start .now) (a .source) (inv .1) (at-start .pre .4) (inv .0) (inv .4) some
     (at-try .try-pass .ensures) taken last
-    (noted (columnsOf (a .matrix .now) (a .n)) (a .n) (a .start .now) (a .seed) (on .near) path _ refl refl refl))
+    (noted (columnsOf (a .matrix .now) (a .n)) (a .n) (a .start .now) (a .source) (on .near) path _ refl refl refl))
 
 pub to-allowance-spec : {M : Type 1} → statement M
 to-allowance-spec =
@@ -282,7 +278,6 @@ to-allowance-spec =
     (tie.spec
     Inv-loop
     μ-loop
-    new-requires
     count-nonzeros-requires
     mul-nonzeros
     array-write-nonzeros

@@ -23,16 +23,13 @@ use Rattle.stages.proofs.to_target.Statement.{statement}
 use Rattle.stages.proofs.to_target.Tie as tie
 
 abbrev Inv-loop : tie.InvT-loop
-Inv-loop matrix n start w₀ numbers₀ indices₀ seed target rng₀ stage₀ counts₀ change₀ left₀ w numbers indices rng stage counts change left =
-    OnPath (columnsOf matrix n) n start seed (Target target) stage w (rng .state) × Falls plusZero (columnsOf matrix n) n start seed
-    × Written (columnsOf matrix n) n start seed stage counts change × (left ≡ nonzeros w)
+Inv-loop matrix n start w₀ numbers₀ indices₀ target source stage₀ counts₀ change₀ left₀ w numbers indices rng stage counts change left =
+    OnPath (columnsOf matrix n) n start source (Target target) stage w rng × Falls plusZero (columnsOf matrix n) n start source
+    × Written (columnsOf matrix n) n start source stage counts change × (left ≡ nonzeros w)
     × (length numbers ≡ length numbers₀) × (length indices ≡ length indices₀)
 
 abbrev μ-loop : tie.MeasureT-loop
-μ-loop matrix n start w₀ numbers₀ indices₀ seed target rng₀ stage₀ counts₀ change₀ left₀ w numbers indices rng stage counts change left = nonzeros w
-
-new-requires : tie.Need-new-requires Inv-loop μ-loop
-new-requires c κs = search needs
+μ-loop matrix n start w₀ numbers₀ indices₀ target source stage₀ counts₀ change₀ left₀ w numbers indices rng stage counts change left = nonzeros w
 
 count-nonzeros-requires : tie.Need-count-nonzeros-requires Inv-loop μ-loop
 count-nonzeros-requires c κs = search needs
@@ -45,7 +42,7 @@ array-write-nonzeros c = search needs
 
 change-of-requires : tie.Need-change-of-requires Inv-loop μ-loop
 change-of-requires c κs =
-    let at-start = c .before .before .before .before .before .before .before .before .before in
+    let at-start = c .before .before .before .before .before .before .before .before in
     let same = ap length (at-start .pre .2) in
     (lent-of (at-start .args .start .now) (at-start .pre .0) (sym same), same)
 
@@ -59,18 +56,17 @@ loop-holds : tie.Need-loop-holds Inv-loop μ-loop
 unfolding tabulate
 loop-holds c =
     let at-count = c .before .before in
-    let at-new = at-count .before .before in
-    let at-known = at-new .before .before .before .before in
+    let at-known = at-count .before .before .before .before .before in
     let at-start = at-known .before .before in
     let a = at-start .args in
     let same = at-start .pre .2 in
     let few = at-start .pre .0 .few in
     let small : bounded one (a .start .now) ≡ true = rw same at (at-start .pre .1) in
-    let on = on-start (columnsOf (a .matrix .now) (a .n)) (a .n) (a .start .now) (a .seed) (omega (arith, few, ap length same)) (Target (a .target)) in (
-      rw (same, at-new .new .ensures) on,
-      falling (columnsOf (a .matrix .now) (a .n)) (a .n) (a .start .now) (a .seed)
+    let on = on-start (columnsOf (a .matrix .now) (a .n)) (a .n) (a .start .now) (a .source) (omega (arith, few, ap length same)) (Target (a .target)) in (
+      rw same on,
+      falling (columnsOf (a .matrix .now) (a .n)) (a .n) (a .start .now) (a .source)
           (normal-bounded (a .start .now) (λ j l. at-known .shared-slice-known2 .given j) small) (omega (arith, few, ap length same)),
-      note-first (columnsOf (a .matrix .now) (a .n)) (a .n) (a .start .now) (a .seed) (omega (arith, few, ap length same))
+      note-first (columnsOf (a .matrix .now) (a .n)) (a .n) (a .start .now) (a .source) (omega (arith, few, ap length same))
           (at-count .count-nonzeros .ensures ∙ ap nonzeros same)
           (c .change-of .ensures ∙ ap (maxChange (columnsOf (a .matrix .now) (a .n)) (length (a .start .now)) (a .n) (a .start .now)) same),
       at-count .count-nonzeros .ensures,
@@ -82,7 +78,7 @@ halving-pass-requires : tie.Need-halving-pass-requires Inv-loop μ-loop
 halving-pass-requires c κs =
     let at-test = c .before .before .before in
     let at-loop = at-test .before in
-    let at-start = at-loop .before .before .before .before .before .before .before .before .before .before .before in
+    let at-start = at-loop .before .before .before .before .before .before .before .before .before .before in
     let inv = at-loop .loop .inv in (
       ready-still (at-start .pre .0) (inv .0 .long ∙ sym (ap length (at-start .pre .2))) (inv .4) (inv .5),
       omega (arith, inv .3, at-test .loop-test .taken, at-start .pre .3),
@@ -105,7 +101,7 @@ array-write-nonzeros-2 : tie.Need-array-write-nonzeros-2 Inv-loop μ-loop
 array-write-nonzeros-2 c =
     let at-test = c .before .before .before .before .before .before .before .before .before .before .before .before in
     let at-loop = at-test .before in
-    let at-start = at-loop .before .before .before .before .before .before .before .before .before .before .before in
+    let at-start = at-loop .before .before .before .before .before .before .before .before .before .before in
     let inv = at-loop .loop .inv in
     omega (arith, eight _ _ (inv .0 .room) (omega (arith, inv .3, at-test .loop-test .taken, at-start .pre .3)))
 
@@ -113,7 +109,7 @@ change-of-requires-2 : tie.Need-change-of-requires-2 Inv-loop μ-loop
 change-of-requires-2 c κs =
     let at-pass = c .before .before .before .before .before .before .before .before .before in
     let at-loop = at-pass .before .before .before .before .before in
-    let at-start = at-loop .before .before .before .before .before .before .before .before .before .before .before in (
+    let at-start = at-loop .before .before .before .before .before .before .before .before .before .before in (
       lent-of (at-start .args .start .now) (at-start .pre .0) (sym (ap length (at-start .pre .2))),
       at-pass .halving-pass .kept .1 .1 .0 ∙ at-loop .loop .inv .0 .long,
     )
@@ -127,7 +123,7 @@ array-write-change-2 : tie.Need-array-write-change-2 Inv-loop μ-loop
 array-write-change-2 c =
     let at-test = c .before .before .before .before .before .before .before .before .before .before .before .before .before .before in
     let at-loop = at-test .before in
-    let at-start = at-loop .before .before .before .before .before .before .before .before .before .before .before in
+    let at-start = at-loop .before .before .before .before .before .before .before .before .before .before in
     let inv = at-loop .loop .inv in
     omega (arith, eight _ _ (inv .0 .room) (omega (arith, inv .3, at-test .loop-test .taken, at-start .pre .3)))
 
@@ -136,10 +132,10 @@ loop-less c =
     let at-pass = c .before .before .before .before .before .before .before .before .before .before in
     let at-test = at-pass .before .before .before .before in
     let at-loop = at-test .before in
-    let at-start = at-loop .before .before .before .before .before .before .before .before .before .before .before in
+    let at-start = at-loop .before .before .before .before .before .before .before .before .before .before in
     let a = at-start .args in
     let inv = at-loop .loop .inv in
-    target-fewer (columnsOf (a .matrix .now) (a .n)) (a .n) (a .start .now) (a .seed) (inv .1) (at-start .pre .3) (inv .0)
+    target-fewer (columnsOf (a .matrix .now) (a .n)) (a .n) (a .start .now) (a .source) (inv .1) (at-start .pre .3) (inv .0)
     (omega (arith, inv .3, at-test .loop-test .taken)) (at-pass .halving-pass .ensures)
 
 loop-again : tie.Need-loop-again Inv-loop μ-loop
@@ -148,15 +144,15 @@ loop-again c =
     let at-pass = at-count .before .before .before .before .before .before .before .before in
     let at-test = at-pass .before .before .before .before in
     let at-loop = at-test .before in
-    let at-start = at-loop .before .before .before .before .before .before .before .before .before .before .before in
+    let at-start = at-loop .before .before .before .before .before .before .before .before .before .before in
     let a = at-start .args in
     let inv = at-loop .loop .inv in
     let k = at-pass .halving-pass .kept in
-    let on = target-next (columnsOf (a .matrix .now) (a .n)) (a .n) (a .start .now) (a .seed) (inv .1) (at-start .pre .3) (inv .0)
+    let on = target-next (columnsOf (a .matrix .now) (a .n)) (a .n) (a .start .now) (a .source) (inv .1) (at-start .pre .3) (inv .0)
     (omega (arith, inv .3, at-test .loop-test .taken)) (at-pass .halving-pass .ensures) in (
       on,
       inv .1,
-      note (columnsOf (a .matrix .now) (a .n)) (a .n) (a .start .now) (a .seed) on (at-count .count-nonzeros2 .ensures) (c .change-of2 .ensures)
+      note (columnsOf (a .matrix .now) (a .n)) (a .n) (a .start .now) (a .source) on (at-count .count-nonzeros2 .ensures) (c .change-of2 .ensures)
           (inv .2 .counts) (inv .2 .moves),
       at-count .count-nonzeros2 .ensures,
       k .1 .1 .1 .0 ∙ inv .4,
@@ -166,7 +162,7 @@ loop-again c =
 same-length : tie.Need-same-length Inv-loop μ-loop
 same-length c =
     let at-loop = c .before in
-    let at-start = at-loop .before .before .before .before .before .before .before .before .before .before .before in
+    let at-start = at-loop .before .before .before .before .before .before .before .before .before .before in
     at-loop .loop .inv .0 .long ∙ sym (ap length (at-start .pre .2))
 
 same-length-2 : tie.Need-same-length-2 Inv-loop μ-loop
@@ -178,13 +174,13 @@ same-length-3 c = search needs
 returns : tie.Need-returns Inv-loop μ-loop
 returns c =
     let at-loop = c .before in
-    let at-start = at-loop .before .before .before .before .before .before .before .before .before .before .before in
+    let at-start = at-loop .before .before .before .before .before .before .before .before .before .before in
     let a = at-start .args in
     let inv = at-loop .loop .inv in
     rw (at-start .pre .2)
-    (target-met (columnsOf (a .matrix .now) (a .n)) (a .n) (a .start .now) (a .seed) (inv .1) (at-start .pre .3) (inv .0)
+    (target-met (columnsOf (a .matrix .now) (a .n)) (a .n) (a .start .now) (a .source) (inv .1) (at-start .pre .3) (inv .0)
     (omega (arith, inv .3, c .loop-test .left))
-    (noted (columnsOf (a .matrix .now) (a .n)) (a .n) (a .start .now) (a .seed) (inv .0 .near) (inv .2) _ refl refl refl))
+    (noted (columnsOf (a .matrix .now) (a .n)) (a .n) (a .start .now) (a .source) (inv .0 .near) (inv .2) _ refl refl refl))
 
 pub to-target-spec : {M : Type 1} → statement M
 to-target-spec =
@@ -192,7 +188,6 @@ to-target-spec =
     (tie.spec
     Inv-loop
     μ-loop
-    new-requires
     count-nonzeros-requires
     mul-nonzeros
     array-write-nonzeros

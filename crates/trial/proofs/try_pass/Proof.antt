@@ -50,7 +50,7 @@ returns c =
     let at-copy = at-pass .before .before .before .before .before .before in
     let at-start = at-copy .before .before .before .before .before .before .before .before .before in
     let a = at-start .args in
-    left-tried (columnsOf (a .matrix .now) (a .n)) (a .n) (a .start .now) (a .allowance) (a .cap) (a .w .now) (a .rng .state)
+    left-tried (columnsOf (a .matrix .now) (a .n)) (a .n) (a .start .now) (a .allowance) (a .cap) (a .w .now) (a .rng)
     (at-copy .copy .ensures) (at-pass .halving-pass .ensures) (at-change .change-of .ensures)
     (sym (at-ends .ends-there .ensures) ∙ c .if1 .taken) _ refl refl refl refl
 
@@ -85,7 +85,7 @@ returns-2 c =
     let at-copy = at-pass .before .before .before .before .before .before in
     let at-start = at-copy .before .before .before .before .before .before .before .before .before in
     let a = at-start .args in
-    taken-tried (columnsOf (a .matrix .now) (a .n)) (a .n) (a .start .now) (a .allowance) (a .cap) (a .w .now) (a .rng .state)
+    taken-tried (columnsOf (a .matrix .now) (a .n)) (a .n) (a .start .now) (a .allowance) (a .cap) (a .w .now) (a .rng)
     (at-copy .copy .ensures) (at-pass .halving-pass .ensures) (at-change .change-of .ensures)
     (sym (at-ends .ends-there .ensures) ∙ at-goes .if1 .left) _ (at-back .copy2 .ensures) _ refl refl refl (ap not (c .ends-there2 .ensures))
 

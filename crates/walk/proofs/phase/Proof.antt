@@ -57,7 +57,7 @@ returns c =
     phase-is (entryOf (a .u .now) (a .n) (a .cols .now) (a .scale .now)) (length (a .cols .now)) (a .num .now) (a .blocked .now)
     (a .x .now) (a .free .now) (at-begin .begin .last .0) (at-begin .begin .last .1 .0) (at-fill-words .fill-words .last .0)
     (at-begin .begin .result) (p .1) (at-begin .begin .ensures) (at-begin .begin .kept .0) (at-begin .begin .kept .1 .0)
-    (at-fill-words .fill-words .ensures) (a .rng .state) (at-steps .steps .ensures)
+    (at-fill-words .fill-words .ensures) (a .rng) (at-steps .steps .ensures)
 
 pub phase-spec : {M : Type 1} → statement M
 phase-spec =

@@ -79,7 +79,7 @@ returns c =
     let m = a .from .count * l in
     let e = entryOf (a .u .now) (a .n) (a .cols .now) (a .scale .now) in
     stops-short e l (a .num .now) (a .blocked .now) (a .x .now) (a .free .now) (a .from .count) (a .from .frozen)
-    (a .from .rng .state) (r + r + r + m - (r + r + r)) (a .g .now) (at-draw-into .draw-into .last .0)
+    (a .from .rng) (r + r + r + m - (r + r + r)) (a .g .now) (at-draw-into .draw-into .last .0)
     (at-direct .direct .last .1 .1 .1 .1 .0) (at-direct .direct .result) (p .1) (omega arith) (p .2)
     (at-draw-into .draw-into .ensures .0) (at-direct .direct .ensures .0) (at-direct .direct .ensures .1) _ (c .if1 .taken)
     refl refl refl (at-draw-into .draw-into .ensures .1)
@@ -118,7 +118,7 @@ returns-2 c =
     let m = a .from .count * l in
     let e = entryOf (a .u .now) (a .n) (a .cols .now) (a .scale .now) in
     stops-nowhere e l (a .num .now) (a .blocked .now) (a .x .now) (a .free .now) (a .from .count) (a .from .frozen)
-    (a .from .rng .state) (r + r + r + m - (r + r + r)) (a .g .now) (at-draw-into .draw-into .last .0)
+    (a .from .rng) (r + r + r + m - (r + r + r)) (a .g .now) (at-draw-into .draw-into .last .0)
     (at-direct .direct .last .1 .1 .1 .1 .0) (at-direct .direct .result) (p .1) (omega arith) (p .2)
     (at-draw-into .draw-into .ensures .0) (at-direct .direct .ensures .0) (at-direct .direct .ensures .1)
     (at-advance .advance .result) (at-advance .advance .last .0) (at-advance .advance .last .1 .1 .0)
@@ -176,7 +176,7 @@ returns-3 c =
     let m = a .from .count * l in
     let e = entryOf (a .u .now) (a .n) (a .cols .now) (a .scale .now) in
     moves-on e l (a .num .now) (a .blocked .now) (a .x .now) (a .free .now) (a .from .count) (a .from .frozen)
-    (a .from .rng .state) (r + r + r + m - (r + r + r)) (a .g .now) (at-draw-into .draw-into .last .0)
+    (a .from .rng) (r + r + r + m - (r + r + r)) (a .g .now) (at-draw-into .draw-into .last .0)
     (at-direct .direct .last .1 .1 .1 .1 .0) (at-direct .direct .result) (p .1) (omega arith) (p .2)
     (at-draw-into .draw-into .ensures .0) (at-direct .direct .ensures .0) (at-direct .direct .ensures .1)
     (at-advance .advance .result) (at-advance .advance .last .0) (at-advance .advance .last .1 .1 .0)

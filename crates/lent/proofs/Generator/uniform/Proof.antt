@@ -5,8 +5,8 @@ use contract.Monad.{factI}
 use contract.Running.{givenOf, tables, tablesOf}
 use denote.Triple.Spec.{tripleOf}
 use denote.Triple.Table.{entered, cited}
-use Rattle.draw.specs.SplitMix.{outputOf, afterOf}
-use Rattle.draw.specs.Uniform.{uniformOf}
+use Rattle.draw.specs.SplitMix.{afterOf}
+use Rattle.draw.specs.Uniform.{uniformIn}
 use Rattle.draw.proofs.SplitMix64.uniform as by-value
 use Rattle.draw.proofs.SplitMix64.uniform.Symbol as by-value-def
 use Rattle.draw.proofs.SplitMix64.uniform.Met as by-value-thm
@@ -22,7 +22,7 @@ unfolding code.routine tablesOf
 uniform-spec 𝓤 H 𝓜 𝓖 𝓡 =
     entered 𝓤 H (tripleOf 𝓤 H (𝓖 .A) uniform.signature (uniform.spec 𝓤 H (𝓖 .A) (𝓜 .mem) (𝓡 .run)))
     (tables 𝓤 H 𝓜 𝓡 code.env .C) (tables 𝓤 H 𝓜 𝓡 code.env .Λ) #uniform code.function (code.unfolded 𝓤 H 𝓜 𝓡)
-    (moves real draw (λ s. uniformOf (outputOf s)) afterOf 𝓤 H (𝓖 .A) (givenOf 𝓤 H 𝓜 𝓖)
+    (moves real draw uniformIn afterOf 𝓤 H (𝓖 .A) (givenOf 𝓤 H 𝓜 𝓖)
     (λ κs a r e. uniform.clauses 𝓤 H (𝓖 .A) (𝓜 .mem) (𝓡 .run) κs a .ensures tt r e)
     (λ κs a. factI 𝓤 _ (emp 𝓤) (refl, refl))
     (tablesOf 𝓤 H 𝓜 (tables 𝓤 H 𝓜 𝓡 code.env)) by-value-def.name

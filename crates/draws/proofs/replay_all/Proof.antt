@@ -1,15 +1,15 @@
--- `draws::main` meets its contract: it goes through the table.
+-- `draws::replay_all` meets its contract: it goes through the table.
 use borrow.Author.Needs.{needs}
 use Prim.Native.Nat.{_-_, _≤_}
 use native.Mathlib.Omega.{arith}
-use Rattle.draws.proofs.main.Statement.{statement}
-use Rattle.draws.proofs.main.Tie as tie
+use Rattle.draws.proofs.replay_all.Statement.{statement}
+use Rattle.draws.proofs.replay_all.Tie as tie
 
 abbrev Inv-loop : tie.InvT-loop
-Inv-loop i₀ i = i ≤ 64
+Inv-loop edition i₀ i = i ≤ 64
 
 abbrev μ-loop : tie.MeasureT-loop
-μ-loop i₀ i = 64 - i
+μ-loop edition i₀ i = 64 - i
 
 loop-holds : tie.Need-loop-holds Inv-loop μ-loop
 loop-holds c = omega arith
@@ -35,8 +35,8 @@ loop-again c = omega arith
 returns : tie.Need-returns Inv-loop μ-loop
 returns c = tt
 
-pub main-spec : {M : Type 1} → statement M
-main-spec =
+pub replay-all-spec : {M : Type 1} → statement M
+replay-all-spec =
     tie.close
     (tie.spec
     Inv-loop
