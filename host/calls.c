@@ -69,13 +69,14 @@ static int untouched(void) {
     return wiped(0, 0);
 }
 
-static int answers(knob_answer a, uint64_t no, uint64_t stage, uint64_t nonzeros, uint64_t change) {
+static int answers(knob_answer a, uint64_t no, uint64_t stage, uint64_t nonzeros, uint64_t change, uint64_t directions, uint64_t sweeps) {
     size_t k;
     int path = no != KNOB_ACCEPTED || (a.path_nonzeros[stage] == nonzeros && bits(a.path_change[stage]) == change);
     for (k = no == KNOB_ACCEPTED ? stage + 1 : 0; k < KNOB_MAX_STAGES; k++) {
         path = path && a.path_nonzeros[k] == 0 && bits(a.path_change[k]) == 0;
     }
-    return a.number == no && a.stage == stage && a.nonzeros == nonzeros && bits(a.change) == change && path;
+    return a.number == no && a.stage == stage && a.nonzeros == nonzeros && bits(a.change) == change && a.directions == directions &&
+           a.sweeps == sweeps && path;
 }
 
 /* A weight that is left: its place, and its bits. */
@@ -154,7 +155,7 @@ static void sparsify(void) {
                                            {17, 0xBFC3521CFB2B78C2u}, {19, 0x3FD826A439F656F2u}};
         fill(m, n);
         lend();
-        hold("knob_sparsify, its record", answers(CALL_knob_sparsify, KNOB_ACCEPTED, 2, 5, 0x3FDC6EF752A04B3Cu));
+        hold("knob_sparsify, its record", answers(CALL_knob_sparsify, KNOB_ACCEPTED, 2, 5, 0x3FDC6EF752A04B3Cu, 36, 7));
         hold("knob_sparsify", thinned(m, left, 5) && wiped(numbers_length, indices_length));
     }
     { /* By edition 2, from a seed on which edition 1 leaves others. */
@@ -165,7 +166,7 @@ static void sparsify(void) {
         static const struct left left[] = {{3, 0x3FB745D1745D1746u}, {8, 0x3FD745D1745D1746u}, {13, 0x3FC745D1745D1746u},
                                            {17, 0xBFC29E4129E4129Fu}, {18, 0x3FCBED61BED61BEDu}};
         lend();
-        hold("knob_sparsify by edition 2, its record", answers(CALL_knob_sparsify, KNOB_ACCEPTED, 2, 5, 0x3FD10EDEAD3F798Du));
+        hold("knob_sparsify by edition 2, its record", answers(CALL_knob_sparsify, KNOB_ACCEPTED, 2, 5, 0x3FD10EDEAD3F798Du, 35, 8));
         hold("knob_sparsify by edition 2", thinned(m, left, 5) && wiped(numbers_length, indices_length));
     }
     { /* The edition is tested after the target, and before the sizes. */
@@ -175,9 +176,9 @@ static void sparsify(void) {
         const uint32_t edition = 3;
         size_t target = 11;
         lend();
-        hold("knob_sparsify, no such edition", answers(CALL_knob_sparsify, KNOB_REFUSED_EDITION, 0, 0, 0) && untouched());
+        hold("knob_sparsify, no such edition", answers(CALL_knob_sparsify, KNOB_REFUSED_EDITION, 0, 0, 0, 0, 0) && untouched());
         target = 0;
-        hold("knob_sparsify, no target", answers(CALL_knob_sparsify, KNOB_REFUSED_ZERO, 0, 0, 0) && untouched());
+        hold("knob_sparsify, no target", answers(CALL_knob_sparsify, KNOB_REFUSED_ZERO, 0, 0, 0, 0, 0) && untouched());
     }
     { /* No two of these are equal. */
         const size_t m = 257, n = 5, matrix_length = 6, weights_length = 7, output_length = 8;
@@ -185,7 +186,7 @@ static void sparsify(void) {
         const uint64_t seed = 12;
         const uint32_t edition = 2;
         lend();
-        hold("knob_sparsify, refused", answers(CALL_knob_sparsify, KNOB_REFUSED_SIZE, 0, 0, 0) && untouched());
+        hold("knob_sparsify, refused", answers(CALL_knob_sparsify, KNOB_REFUSED_SIZE, 0, 0, 0, 0, 0) && untouched());
     }
 }
 
@@ -204,7 +205,7 @@ static void sparsify_within(void) {
                                            {35, 0x3FC0690690690690u}, {36, 0x3FD0690690690690u}};
         fill(m, n);
         lend();
-        hold("knob_sparsify_within, its record", answers(CALL_knob_sparsify_within, KNOB_ACCEPTED, 2, 8, 0x3FD171B8E4FA2B41u));
+        hold("knob_sparsify_within, its record", answers(CALL_knob_sparsify_within, KNOB_ACCEPTED, 2, 8, 0x3FD171B8E4FA2B41u, 56, 11));
         hold("knob_sparsify_within", thinned(m, left, 8) && wiped(numbers_length, indices_length));
     }
     { /* By edition 2, from a seed on which edition 1 leaves others. */
@@ -217,7 +218,8 @@ static void sparsify_within(void) {
                                            {9, 0x3FBF9ADD3C0CA457u}, {14, 0x3FAF9ADD3C0CA457u}, {27, 0xBFB948B0FCD6E9E0u},
                                            {36, 0x3FCF9ADD3C0CA457u}, {37, 0xBFC2F684BDA12F68u}};
         lend();
-        hold("knob_sparsify_within by edition 2, its record", answers(CALL_knob_sparsify_within, KNOB_ACCEPTED, 2, 8, 0x3FD20EFBF9223017u));
+        hold("knob_sparsify_within by edition 2, its record",
+             answers(CALL_knob_sparsify_within, KNOB_ACCEPTED, 2, 8, 0x3FD20EFBF9223017u, 58, 8));
         hold("knob_sparsify_within by edition 2", thinned(m, left, 8) && wiped(numbers_length, indices_length));
     }
     { /* The edition is tested after the allowance, and before the sizes. */
@@ -227,11 +229,13 @@ static void sparsify_within(void) {
         const uint32_t edition = 0, capped = 1;
         double allowance = 0.5;
         lend();
-        hold("knob_sparsify_within, no such edition", answers(CALL_knob_sparsify_within, KNOB_REFUSED_EDITION, 0, 0, 0) && untouched());
+        hold("knob_sparsify_within, no such edition",
+             answers(CALL_knob_sparsify_within, KNOB_REFUSED_EDITION, 0, 0, 0, 0, 0) && untouched());
         allowance = -1.0;
-        hold("knob_sparsify_within, no allowance", answers(CALL_knob_sparsify_within, KNOB_REFUSED_ALLOWANCE, 0, 0, 0) && untouched());
+        hold("knob_sparsify_within, no allowance",
+             answers(CALL_knob_sparsify_within, KNOB_REFUSED_ALLOWANCE, 0, 0, 0, 0, 0) && untouched());
     }
-    { /* C2 */
+    { /* C2; its one pass is discarded, and counts */
         const size_t m = 2, n = 2, matrix_length = 4, weights_length = 2, output_length = 2;
         const size_t numbers_length = KNOB_NUMBERS(2, 2), indices_length = KNOB_INDICES(2, 2), cap = 1;
         const uint64_t seed = 5;
@@ -241,7 +245,7 @@ static void sparsify_within(void) {
         memcpy(matrix_room, (double[]){1.0, 1.0, 1.0, -1.0}, 4 * sizeof(double));
         memcpy(weights_room, (double[]){1.0, 3.0}, 2 * sizeof(double));
         lend();
-        hold("C2, its record", answers(CALL_knob_sparsify_within, KNOB_ACCEPTED, 0, 2, 0));
+        hold("C2, its record", answers(CALL_knob_sparsify_within, KNOB_ACCEPTED, 0, 2, 0, 1, 1));
         hold("C2", thinned(m, left, 2) && wiped(numbers_length, indices_length));
     }
     { /* No two of these are equal. */
@@ -251,7 +255,7 @@ static void sparsify_within(void) {
         const uint32_t edition = 2, capped = 1;
         const double allowance = 0.5;
         lend();
-        hold("knob_sparsify_within, refused", answers(CALL_knob_sparsify_within, KNOB_REFUSED_SIZE, 0, 0, 0) && untouched());
+        hold("knob_sparsify_within, refused", answers(CALL_knob_sparsify_within, KNOB_REFUSED_SIZE, 0, 0, 0, 0, 0) && untouched());
     }
 }
 

@@ -114,6 +114,8 @@ typedef struct {
     uint64_t stage;    /* the stage returned: 0 the normalised weights, and one more with each pass that was kept */
     uint64_t nonzeros; /* the weights returned that are not 0 */
     double change;     /* the largest change of a row's margin from the normalised weights to those returned */
+    uint64_t directions; /* the directions that all passes drew, one tried and discarded among them: at most 8*m, of m Gaussians at most */
+    uint64_t sweeps;     /* the sweeps that all passes made, that one among them too: at most 1600 */
     uint64_t path_nonzeros[KNOB_MAX_STAGES]; /* the path: nonzeros of each stage from 0 to the one returned, and zeros after it */
     double path_change[KNOB_MAX_STAGES];     /* and the change of each; nonzeros and change above are those at stage */
 } knob_answer;

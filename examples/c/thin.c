@@ -47,6 +47,7 @@ int main(void) {
         return 1;
     }
     printf("stage %" PRIu64 ", %" PRIu64 " left, no margin moved by more than %g\n", answer.stage, answer.nonzeros, answer.change);
+    printf("directions drawn: %" PRIu64 ", sweeps made: %" PRIu64 "\n", answer.directions, answer.sweeps);
     /* %g is for reading; %.17g keeps every double. */
     for (size_t j = 0; j < M; j++) printf("weight %zu: %g\n", j, output[j]);
     return 0;

@@ -43,6 +43,7 @@ fn main() {
         std::process::exit(1);
     }
     println!("stage {}, {} left, no margin moved by more than {}", a.stage, a.nonzeros, a.change);
+    println!("directions drawn: {}, sweeps made: {}", a.directions, a.sweeps);
     for (j, w) in output.iter().enumerate() {
         println!("weight {j}: {w}");
     }

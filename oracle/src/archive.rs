@@ -63,17 +63,17 @@ fn line(job: &str) -> String {
     let e = Ensemble { matrix, m, n, weights, seed, edition: 1 };
     let refused = refusal(&e, rule, m, usize::MAX, usize::MAX);
     if refused != 0 {
-        return text(refused, 0, &[], 0, 0.0, &vec![0.0; m]);
+        return text(refused, 0, &[], 0, 0.0, [0, 0], &vec![0.0; m]);
     }
     let said = by_stages(&columns, &e, rule);
     assert!(said.agrees, "the original's own call gives other weights");
-    text(0, said.stage, &said.path, said.nonzeros, said.change, &said.weights)
+    text(0, said.stage, &said.path, said.nonzeros, said.change, [said.directions, said.sweeps], &said.weights)
 }
 
-/// An answer, its path of nine places and its weights.
-fn text(number: u64, stage: u64, path: &[(u64, f64)], nonzeros: u64, change: f64, weights: &[f64]) -> String {
+/// An answer, its directions and sweeps, its path of nine places and its weights.
+fn text(number: u64, stage: u64, path: &[(u64, f64)], nonzeros: u64, change: f64, totals: [u64; 2], weights: &[f64]) -> String {
     let place = |i: usize| path.get(i).copied().unwrap_or((0, 0.0));
-    let mut text = format!("{number}\t{stage}\t{nonzeros}\t{:016x}", change.to_bits());
+    let mut text = format!("{number}\t{stage}\t{nonzeros}\t{:016x}\t{}\t{}", change.to_bits(), totals[0], totals[1]);
     (0..9).for_each(|i| text += &format!("\t{}", place(i).0));
     (0..9).for_each(|i| text += &format!("\t{:016x}", place(i).1.to_bits()));
     weights.iter().for_each(|w| text += &format!("\t{:016x}", w.to_bits()));

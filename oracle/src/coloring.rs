@@ -21,7 +21,7 @@ mod tally;
 #[path = "shared/watch.rs"]
 mod watch;
 
-use chance::{count, Chance, ZERO_FIRST};
+use chance::{count, zero_at, Chance};
 use coloring_call::Colored;
 use domain::{Domain, Expected};
 use lent::{scratch_sizes, Lent, Scratch};
@@ -94,6 +94,7 @@ struct Comparison {
     outside: Tally,
     scratch: Tally,
     inputs: Tally,
+    broken_off: Tally,
     refusals: Tally,
 }
 
@@ -106,9 +107,14 @@ impl Comparison {
         let a = call.make();
         let counted = a.number == 0 && a.directions == seen.directions && a.sweeps == seen.sweeps;
         let name = || format!("{}: {a:?}, expected {} directions, {} sweeps", call.name(), seen.directions, seen.sweeps);
-        match expected {
-            Expected::Original(colors) => self.answers.note(counted && call.output.content() == colors, name),
-            Expected::Document(colors) => self.outside.note(counted && call.output.content() == colors, name),
+        let (colors, tally) = match expected {
+            Expected::Original(colors) => (colors, &mut self.answers),
+            Expected::Document(colors) => (colors, &mut self.outside),
+        };
+        let right = counted && call.output.content() == colors;
+        tally.note(right, name);
+        if seen.broken_off > 0 {
+            self.broken_off.note(right, name);
         }
         self.scratch.note(call.scratch.wiped() && call.output.fenced(), || call.name());
         self.inputs.note(call.matrix.iter().map(|a| a.to_bits()).eq(given), || call.name());
@@ -189,6 +195,7 @@ fn main() {
         outside: Tally::rare("coloring, outside the domain"),
         scratch: Tally::new("coloring, scratch wiped"),
         inputs: Tally::new("coloring, inputs kept"),
+        broken_off: Tally::new("coloring, a direction broken off"),
         refusals: Tally::new("coloring, refusals"),
     };
     for (m, n) in sizes(&mut chance) {
@@ -197,9 +204,11 @@ fn main() {
         all.accepted(Call::new(matrix, m, n, &mut chance));
     }
     for (m, n) in (1..=6).flat_map(|m| (0..=6).map(move |n| (m, n))) {
-        // The first Gaussian is a zero: with one column the phase freezes nothing, and the rest is rounded.
-        let matrix = matrices::matrix(2, m, n, &mut chance);
-        all.accepted(Call { seed: ZERO_FIRST, ..Call::new(matrix, m, n, &mut chance) });
+        // An early Gaussian is a zero: a direction with nothing beside it is broken off, and a phase that froze nothing is rounded.
+        for early in 0..12 {
+            let matrix = matrices::matrix(2, m, n, &mut chance);
+            all.accepted(Call { seed: zero_at(early), ..Call::new(matrix, m, n, &mut chance) });
+        }
     }
     for _ in 0..count(100) {
         // Large ones of the kind in which a NaN can arise.
@@ -218,5 +227,5 @@ fn main() {
         all.refused(Call::new(matrix, m, n, &mut chance));
     }
     all.domain.tell();
-    end(&[&all.answers, &all.outside, &all.scratch, &all.inputs, &all.refusals])
+    end(&[&all.answers, &all.outside, &all.scratch, &all.inputs, &all.broken_off, &all.refusals])
 }

@@ -1,8 +1,8 @@
 // needs: knob_gaussian knob_gaussian_2 knob_sparsify knob_sparsify_within
-//! Thinning jobs: weights, stage, nonzeros and change against the original's own functions with our draw, every refusal against a
-//! table written here, and pairs of jobs on one ensemble and seed against each other: any two read one path, and of two whose rules are
-//! so ordered the second is no earlier and keeps what its rule asks. Both editions of the draw. Arguments: the folder of archived
-//! ensembles; and `ignoring` to hand the library edition 1 for every job of edition 2, which has to come out unequal.
+//! Thinning jobs: weights, stage, nonzeros, change, directions, sweeps and path against the original's own functions with our draw, every
+//! refusal against a table written here, and pairs of jobs on one ensemble and seed against each other: any two read one path, and of two
+//! whose rules are so ordered the second is no earlier and keeps what its rule asks. Both editions of the draw. Arguments: the folder of
+//! archived ensembles; and `ignoring` to hand the library edition 1 for every job of edition 2, which has to come out unequal.
 
 #[path = "shared/chance.rs"]
 mod chance;
@@ -27,9 +27,9 @@ mod thinning_calls;
 #[path = "shared/watch.rs"]
 mod watch;
 
-use chance::{count, Chance};
+use chance::{count, zero_at, Chance};
 use domain::{Domain, Expected};
-use jobs::{by_stages, refusal, Ensemble, Rule};
+use jobs::{by_stages, refusal, Ensemble, Rule, Said};
 use lent::{scratch_sizes, Lent, Scratch};
 use tally::{end, same, Tally};
 use thinning_calls::{knob_sparsify, knob_sparsify_within, Answer};
@@ -98,6 +98,7 @@ struct Comparison {
     original: Tally,
     scratch: Tally,
     inputs: Tally,
+    broken_off: Tally,
     refusals: Tally,
     paths: Tally,
     pairs: Tally,
@@ -125,11 +126,19 @@ impl Comparison {
                 && a.stage == said.stage
                 && a.nonzeros == said.nonzeros
                 && same(a.change, said.change)
+                && a.directions == said.directions
+                && a.sweeps == said.sweeps
                 && a.has_path(&said.path);
             let weights = made.output.content().iter().copied().eq(said.weights.iter().map(|w| w.to_bits()));
-            tally.note(record && weights, || {
-                format!("{}, expected stage {}, nonzeros {}, change {}", name(), said.stage, said.nonzeros, said.change)
-            });
+            let expected = || {
+                let Said { stage, nonzeros, change, directions, sweeps, .. } = said;
+                let counts = format!("{directions} directions, {sweeps} sweeps");
+                format!("{}, expected stage {stage}, nonzeros {nonzeros}, change {change}, {counts}", name())
+            };
+            tally.note(record && weights, expected);
+            if said.broken_off > 0 {
+                self.broken_off.note(record && weights, expected);
+            }
             self.scratch.note(made.scratch.wiped() && made.output.fenced(), &name);
             self.inputs.note(bits(e) == given, &name);
             all.push(made);
@@ -158,7 +167,8 @@ impl Comparison {
             && if expected == 0 {
                 made.scratch.wiped()
             } else {
-                let zeros = a.stage == 0 && a.nonzeros == 0 && a.change.to_bits() == 0 && a.has_path(&[]);
+                let counts = [a.stage, a.nonzeros, a.change.to_bits(), a.directions, a.sweeps];
+                let zeros = counts == [0; 5] && a.has_path(&[]);
                 zeros && made.output.untouched() && made.scratch.untouched()
             };
         self.refusals.note(right, || format!("{} columns, {} rows, edition {}, {rule:?}: {a:?}, expected {expected}", e.m, e.n, e.edition));
@@ -351,6 +361,7 @@ fn main() {
         original: Tally::new("the original's stages and its own calls"),
         scratch: Tally::new("thinning, scratch wiped"),
         inputs: Tally::new("thinning, inputs kept"),
+        broken_off: Tally::new("thinning, a direction broken off"),
         refusals: Tally::new("thinning, refusals"),
         paths: Tally::new("thinning, two jobs read one path"),
         pairs: Tally::new("thinning, the second job allows as much"),
@@ -366,6 +377,12 @@ fn main() {
     some(600, 48, 64, &mut all, &mut chance);
     some(40, 128, 256, &mut all, &mut chance);
     some(6, 256, 1000, &mut all, &mut chance);
+    for (m, early) in (2..=8).flat_map(|m| (0..24).map(move |early| (m, early))) {
+        // An early Gaussian is a zero: where the direction has nothing beside it, it is broken off.
+        let e = Ensemble { seed: zero_at(early), ..ensemble(m, 6, &mut chance) };
+        let rules = [Rule::Target(1), Rule::Within(f64::MAX, None), Rule::Within(0.0, None), a_rule(m, &mut chance)];
+        all.jobs(&e, &rules, &mut chance);
+    }
     let mut large = ensemble(256, 4096, &mut chance);
     large.weights = (0..256).map(|_| chance.unit() + 0.5).collect();
     all.jobs(&large, &[Rule::Target(4), Rule::Within(0.25, None)], &mut chance);
@@ -392,5 +409,6 @@ fn main() {
         all.refused(&e, Rule::Target(2), output, Scratch::enough(m, n, &mut chance));
     }
     all.domain.tell();
-    end(&[&all.answers, &all.outside, &all.original, &telling, &all.scratch, &all.inputs, &all.refusals, &all.paths, &all.pairs])
+    let Comparison { answers, outside, original, scratch, inputs, broken_off, refusals, paths, pairs, .. } = &all;
+    end(&[answers, outside, original, &telling, scratch, inputs, broken_off, refusals, paths, pairs])
 }

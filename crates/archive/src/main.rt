@@ -1,9 +1,10 @@
-// Replays an archive of 37 jobs: number, stage, nonzero entries, change, path and weights of each, doubles in hexadecimal. The file stdout
-// holds what the original answers for them, but for the last, whose allowance is infinite and which is refused. Entries and weights are
-// made by the generator from the job's seed.
+// Replays an archive of 37 jobs: number, stage, nonzero entries, change, directions, sweeps, path and weights of each, doubles in
+// hexadecimal. The file stdout holds what the original answers for them, but for the last, whose allowance is infinite and which is
+// refused. Entries and weights are made by the generator from the job's seed.
 use draw::SplitMix64;
 use report::print_answer;
 use report::print_path;
+use report::print_totals;
 use report::print_weights;
 use report::put;
 use rules::Cap;
@@ -293,9 +294,10 @@ const CAPS: [usize; 37] = [
     0,
 ];
 
-// An answer, its path and its weights.
+// An answer, its totals, its path and its weights.
 fn show(a: Answer, output: &[f64]) {
     print_answer(a);
+    print_totals(a);
     print_path(a);
     print_weights(output);
     put(b"\n");

@@ -212,6 +212,31 @@ fn equal_columns(seed: u64) {
     expect(b"opposite colours");
 }
 
+// R-10: one column, and a seed whose first output is all ones, so that the first Gaussian is a zero and its direction is broken off; the
+// number, the directions and the sweeps.
+fn broken_off() {
+    let matrix = [1.0f64, -0.5, 0.25];
+    let mut colours = [0i8; 1];
+    let mut numbers = [0.0f64; 53];
+    let mut indices = [0u32; 40];
+    let answer = discrepancy_coloring(
+        &matrix[..],
+        1,
+        3,
+        0x3162_8AF6_7B21_31AB,
+        &mut colours[..],
+        &mut numbers[..],
+        &mut indices[..],
+    );
+    put(b"R-10\tone column, a first Gaussian of 0\t");
+    io::print_decimal(1, answer.number);
+    tab();
+    io::print_decimal(1, answer.directions);
+    tab();
+    io::print_decimal(1, answer.sweeps);
+    expect(b"one direction, broken off, and one sweep");
+}
+
 // C15: one column too many.
 fn too_many_columns() {
     let matrix = [1.0f64; 257];
@@ -346,6 +371,7 @@ fn main() {
     supports_of_4();
     hundreds();
     seeded();
+    broken_off();
     too_many_columns();
     most_columns();
     random_jobs();

@@ -14,12 +14,15 @@ use Rattle.seq.specs.Sums.{plusZero, at}
 use Rattle.seq.proofs.Filling.{room, getD-tab}
 use Rattle.entries.specs.Entries.{entryOf}
 use Rattle.entries.proofs.Reading.{entry-own, entry-under}
-use Rattle.coloring.specs.Coloring.{coloringOf}
+use Rattle.coloring.specs.Coloring.{Colored, coloringOf}
 use Rattle.coloring.proofs.SameColumns.{coloring-same}
+use Rattle.coloring.proofs.Counts.{directions-most, sweeps-few}
 use Rattle.limits.specs.Matrix.{columnsOf}
 use Rattle.doubling.specs.Doubling.{remaining, scaleAt, sigmaOf, halvedTo}
-use Rattle.halve.specs.Halve.{scaledColumns, halvedOnce}
-use Rattle.halve.specs.Handed.{halvesOf, HalvedBy}
+use Rattle.halve.specs.Halve.{Halved, scaledColumns, halvedBy, halvedOnce}
+use Rattle.halve.specs.Handed.{Countable}
+use Rattle.coloring.specs.Fresh.{ColoredAs}
+use Rattle.coloring.specs.declared.Counted.{Counted}
 use Rattle.draw.specs.declared.SplitMix64.{SplitMix64}
 
 module _ (u : List Float) (n : ℕ) (w : List Float) (ω : Float) (r : List ℕ) (whole : length u ≡ length w * n)
@@ -48,28 +51,40 @@ module _ (u : List Float) (n : ℕ) (w : List Float) (ω : Float) (r : List ℕ)
   colours-same rng = rw (add-one n) (coloring-same (entryOf u n r scales) (scaledColumns (columnsOf u n) n w ω r) (length r) (suc n) entry-same plusZero rng)
 
   -- the halving by these colours, from what each call ensures
-  pub halved-by : (rng : SplitMix64) (scale x : List Float) (rows : ℕ) (sigma : Float) (v : List Float) (s : SplitMix64)
-      → scale ≡ scales → rows ≡ n + 1 → x ≡ coloringOf plusZero (entryOf u n r scale) (length r) rows rng .x
-      → s ≡ coloringOf plusZero (entryOf u n r scale) (length r) rows rng .rng → sigma ≡ sigmaOf x → v ≡ halvedTo w r x sigma (length r)
-      → HalvedBy (coloringOf plusZero (scaledColumns (columnsOf u n) n w ω r) (length r) (suc n) rng) w r v s
-  halved-by rng scale x rows sigma v s es er ex eg ec ev =
+  pub halved-by : (rng : SplitMix64) (scale x : List Float) (rows : ℕ) (sigma : Float) (v : List Float) (r' : Counted) (directions sweeps : ℕ)
+      → scale ≡ scales → rows ≡ n + 1 → ColoredAs x r' (coloringOf plusZero (entryOf u n r scale) (length r) rows rng)
+      → sigma ≡ sigmaOf x → v ≡ halvedTo w r x sigma (length r)
+      → _≡_ {A = Halved} (record { w = v; rng = r' .rng; directions = directions + r' .directions; sweeps = sweeps + r' .sweeps })
+      (halvedBy (record { w = w; rng = rng; directions = directions; sweeps = sweeps }) r
+      (coloringOf plusZero (scaledColumns (columnsOf u n) n w ω r) (length r) (suc n) rng))
+  halved-by rng scale x rows sigma v r' directions sweeps es er c ec ev =
       let same : coloringOf plusZero (entryOf u n r scale) (length r) rows rng ≡ coloringOf plusZero
       (scaledColumns (columnsOf u n) n w ω r) (length r) (suc n) rng =
       rw (es, er) (colours-same rng) in
-      record {
-        weights = ev ∙ ap (λ t. halvedTo w r x t (length r)) ec ∙ ap (λ y. halvedTo w r y (sigmaOf y) (length r)) (ex ∙ ap (λ c. c .x) same);
-        rng = eg ∙ ap (λ c. c .rng) same;
-      }
+      rw (← same) (rw (ev, ec, c .colours, c .draws, c .directions, c .sweeps))
+
+-- what a colouring counts fits into the tally
+module _ {t r : Counted} {x : List Float} (z : Float) (a : ℕ → ℕ → Float) (k n : ℕ) (rng : SplitMix64) (room : Countable t 1) (few : k ≤ 256)
+    (c : ColoredAs x r (coloringOf z a k n rng)) where
+  pub directions-fit : t .directions + r .directions ≤ 1048576
+  directions-fit = omega (arith, room .directions, c .directions, directions-most z a k n rng)
+
+  pub sweeps-fit : t .sweeps + r .sweeps ≤ 1048576
+  sweeps-fit = omega (arith, room .sweeps, c .sweeps, sweeps-few z a k n rng)
 
 -- ---- one halving
 
-module _ (u : ℕ → ℕ → Float) (n : ℕ) (w : List Float) (ω : Float) (rest : List ℕ) (rng : SplitMix64) where
-  pub halve-none : length (remaining w rest) ≡ 0 → halvesOf w rng ≡ halvedOnce plusZero u n ω rest (halvesOf w rng)
-  unfolding halvedOnce
-  halve-none e = rw (eq-eqb (length (remaining w rest)) 0 e)
+module _ (u : ℕ → ℕ → Float) (n : ℕ) (ω : Float) (rest : List ℕ) (h : Halved) where
+  abbrev some : List ℕ
+  some = remaining (h .w) rest
 
-  pub halve-some : (length (remaining w rest) ≡ 0 → ⊥) → (v : List Float) (s : SplitMix64)
-      → HalvedBy (coloringOf plusZero (scaledColumns u n w ω (remaining w rest)) (length (remaining w rest)) (suc n) rng) w (remaining w rest) v s
-      → halvesOf v s ≡ halvedOnce plusZero u n ω rest (halvesOf w rng)
+  abbrev colouring : Colored
+  colouring = coloringOf plusZero (scaledColumns u n (h .w) ω some) (length some) (suc n) (h .rng)
+
+  pub halve-none : length some ≡ 0 → h ≡ halvedOnce plusZero u n ω rest h
   unfolding halvedOnce
-  halve-some e v s g = rw (ne-eqb (length (remaining w rest)) 0 e, g .weights, g .rng)
+  halve-none e = rw (eq-eqb (length some) 0 e)
+
+  pub halve-some : (length some ≡ 0 → ⊥) → (k : Halved) → k ≡ halvedBy h some colouring → k ≡ halvedOnce plusZero u n ω rest h
+  unfolding halvedOnce
+  halve-some e k g = rw (ne-eqb (length some) 0 e) g

@@ -2,3 +2,4 @@
 mod Columns
 mod FiniteEntries
 pub mod Calls
+pub mod Adding

@@ -1,6 +1,6 @@
 -- One halving: the remaining rest coloured, and halved by the colours.
 -- A matrix is a function of the column and the row; it has n rows. z is what a sum starts from.
-use Prim.Native.Nat.{ℕ, suc}
+use Prim.Native.Nat.{ℕ, suc, _+_}
 use mathlib.Core.List.{List}
 use lib.Dec.{ltb, eqb}
 use lib.ListN.{length, getD}
@@ -16,14 +16,25 @@ abbrev pub scaledColumns : (ℕ → ℕ → Float) → ℕ → List Float → Fl
 scaledColumns u n w omega rest p i =
     pick (ltb i n) (mul binary64 (u (getD rest p 0) i) (scaleAt w omega rest p)) (absOf (scaleAt w omega rest p))
 
--- weights, and the generator that runs on
+-- weights, the generator that runs on, and how many directions were drawn and how many sweeps made on the way to them
 pub record Halved : Type 0 where
   pub w : List Float
   pub rng : SplitMix64
+  pub directions : ℕ
+  pub sweeps : ℕ
+
+-- the weights at some indices halved by their colours; what the colouring drew and swept is added
+abbrev pub halvedBy : Halved → List ℕ → Colored → Halved
+halvedBy h some c = record {
+  w = halvedTo (h .w) some (c .x) (sigmaOf (c .x)) (length some);
+  rng = c .rng;
+  directions = h .directions + c .directions;
+  sweeps = h .sweeps + c .sweeps;
+}
 
 -- the remaining rest coloured and halved, where there is any
 unfoldable pub halvedOnce : Float → (ℕ → ℕ → Float) → ℕ → Float → List ℕ → Halved → Halved
 halvedOnce z u n omega rest h =
     let r : List ℕ = remaining (h .w) rest in
     let c : Colored = coloringOf z (scaledColumns u n (h .w) omega r) (length r) (suc n) (h .rng) in
-    pick (eqb (length r) 0) h (record { w = halvedTo (h .w) r (c .x) (sigmaOf (c .x)) (length r); rng = c .rng })
+    pick (eqb (length r) 0) h (halvedBy h r c)

@@ -7,11 +7,9 @@ use lib.ListN.{length}
 use lib.Ieee.{Float}
 use Rattle.limits.specs.Limits.{bounded}
 use Rattle.ieee.specs.Constants.{one}
-use Rattle.coloring.specs.Coloring.{Colored}
 use Rattle.seq.specs.Indices.{Below}
-use Rattle.doubling.specs.Doubling.{halvedTo, sigmaOf}
 use Rattle.halve.specs.Halve.{Halved}
-use Rattle.draw.specs.declared.SplitMix64.{SplitMix64}
+use Rattle.coloring.specs.declared.Counted.{Counted}
 
 -- a colouring of some indices has its columns and its scratch
 pub record Lent (u : List Float) (n : ℕ) (w : List Float) (some : List ℕ) (scale x numbers : List Float) (blocked : List ℕ) : Type 0 where
@@ -25,11 +23,6 @@ pub record Lent (u : List Float) (n : ℕ) (w : List Float) (some : List ℕ) (s
   pub rows : length blocked ≡ n + 1
   pub small : bounded one u ≡ true
 
--- w is v with the weights at some indices halved by the colours c, and s the generator after them
-pub record HalvedBy (c : Colored) (v : List Float) (some : List ℕ) (w : List Float) (s : SplitMix64) : Type 0 where
-  pub weights : w ≡ halvedTo v some (c .x) (sigmaOf (c .x)) (length some)
-  pub rng : s ≡ c .rng
-
 -- the matrix has a column for each weight and no entry above 1, and there is scratch for a colouring of any of them with one more row
 pub record Ready (u : List Float) (n : ℕ) (w numbers : List Float) (indices : List ℕ) : Type 0 where
   pub whole : length u ≡ length w * n
@@ -39,6 +32,11 @@ pub record Ready (u : List Float) (n : ℕ) (w numbers : List Float) (indices : 
   pub words : n + 1 ≤ length indices
   pub small : bounded one u ≡ true
 
--- weights and a generator
-abbrev pub halvesOf : List Float → SplitMix64 → Halved
-halvesOf w rng = record { w = w; rng = rng }
+-- so many more colourings can be counted: each has at most 512 directions and 100 sweeps
+pub record Countable (c : Counted) (more : ℕ) : Type 0 where
+  pub directions : c .directions + 512 * more ≤ 1048576
+  pub sweeps : c .sweeps + 100 * more ≤ 1048576
+
+-- weights, a generator and what was counted
+abbrev pub halvesOf : List Float → Counted → Halved
+halvesOf w c = record { w = w; rng = c .rng; directions = c .directions; sweeps = c .sweeps }

@@ -1,10 +1,10 @@
 // One halving: the remaining rest is coloured, and its weights are doubled or zeroed.
+use coloring::Counted;
 use coloring::coloring;
 use doubling::double_or_zero;
 use doubling::remaining_into;
 use doubling::scales_into;
 use doubling::sigma_of;
-use draw::SplitMix64;
 ghost use mathlib.Core.Path.{_≡_};
 ghost use Prim.Native.Nat.{suc, _≤_};
 ghost use lib.ListN.{length};
@@ -12,10 +12,10 @@ ghost use Rattle.seq.specs.Sums.{plusZero};
 ghost use Rattle.seq.specs.Indices.{Below};
 ghost use Rattle.coloring.specs.Coloring.{coloringOf};
 ghost use Rattle.limits.specs.Matrix.{columnsOf};
-ghost use Rattle.halve.specs.Halve.{scaledColumns, halvedOnce};
-ghost use Rattle.halve.specs.Handed.{halvesOf, Lent, HalvedBy, Ready};
+ghost use Rattle.halve.specs.Halve.{scaledColumns, halvedBy, halvedOnce};
+ghost use Rattle.halve.specs.Handed.{halvesOf, Lent, Ready, Countable};
 
-// Colours some indices and halves their weights; the generator after it. scale, x and blocked are scratch.
+// Colours some indices and halves their weights; the tally with the colouring added. scale, x and blocked are scratch.
 fn halve_some(
     matrix: &[f64],
     n: usize,
@@ -26,13 +26,14 @@ fn halve_some(
     x: &mut [f64],
     numbers: &mut [f64],
     blocked: &mut [u32],
-    rng: SplitMix64,
-) -> SplitMix64
-    requires { ⌜ Lent (now matrix) n (now w) (now some) (now scale) (now x) (now numbers) (now blocked) ⌝ }
-    ensures { λ r. ⌜ HalvedBy (coloringOf plusZero
+    tally: Counted,
+) -> Counted
+    requires { ⌜ Lent (now matrix) n (now w) (now some) (now scale) (now x) (now numbers) (now blocked) × Countable tally 1 ⌝ }
+    ensures { λ r. ⌜ halvesOf (now (w .exit)) r ≡ halvedBy (halvesOf (now (w .entry)) tally) (now (some .entry)) (coloringOf plusZero
         (scaledColumns (columnsOf (now (matrix .entry)) n) n (now (w .entry)) omega (now (some .entry)))
-        (length (now (some .entry))) (suc n) rng) (now (w .entry)) (now (some .entry)) (now (w .exit)) r ⌝ }
+        (length (now (some .entry))) (suc n) (tally .rng)) ⌝ }
 {
+    let rng = tally.rng;
     scales_into(&mut scale[..], &w[..], omega, some);
     let c = coloring(
         matrix,
@@ -46,11 +47,17 @@ fn halve_some(
     );
     let sigma = sigma_of(&x[..]);
     double_or_zero(w, some, &x[..], sigma);
+    let directions = tally.directions + c.directions;
+    let sweeps = tally.sweeps + c.sweeps;
     let r = c.rng;
-    r
+    Counted {
+        directions,
+        sweeps,
+        rng: r,
+    }
 }
 
-// Colours the remaining rest and halves it, where there is any; the generator after it.
+// Colours the remaining rest and halves it, where there is any; the tally with the colouring added.
 pub fn halve(
     matrix: &[f64],
     n: usize,
@@ -59,13 +66,12 @@ pub fn halve(
     rest: &[u32],
     numbers: &mut [f64],
     indices: &mut [u32],
-    rng: SplitMix64,
-) -> SplitMix64
+    tally: Counted,
+) -> Counted
     requires { ⌜ Ready (now matrix) n (now w) (now numbers) (now indices) × Below (now rest) (length (now w))
-        × (length (now rest) ≤ length (now w)) ⌝ }
+        × (length (now rest) ≤ length (now w)) × Countable tally 1 ⌝ }
     ensures { λ r. ⌜ halvesOf (now (w .exit)) r
-        ≡ halvedOnce plusZero (columnsOf (now (matrix .entry)) n) n omega (now (rest .entry))
-        (halvesOf (now (w .entry)) rng) ⌝ }
+        ≡ halvedOnce plusZero (columnsOf (now (matrix .entry)) n) n omega (now (rest .entry)) (halvesOf (now (w .entry)) tally) ⌝ }
 {
     let mut some = [0u32; 256];
     let mut scale = [0.0f64; 256];
@@ -73,7 +79,7 @@ pub fn halve(
     let rows = n + 1;
     let k = remaining_into(&mut some[..], rest, &w[..]);
     if k == 0 {
-        return rng;
+        return tally;
     }
     halve_some(
         matrix,
@@ -85,6 +91,6 @@ pub fn halve(
         &mut x[..k],
         numbers,
         &mut indices[..rows],
-        rng,
+        tally,
     )
 }

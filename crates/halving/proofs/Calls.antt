@@ -16,6 +16,7 @@ use Rattle.ranking.specs.Ranking.{support, ranked, keptCount, restOf}
 use Rattle.halve.specs.Halve.{halvedOnce}
 use Rattle.halve.specs.Handed.{halvesOf}
 use Rattle.halving.specs.Halving.{halvedTwice, passOf}
+use Rattle.coloring.specs.declared.Counted.{Counted}
 use Rattle.halving.proofs.Rest.{length-ranked, length-rest, rest-some, rest-on}
 use Rattle.draw.specs.declared.SplitMix64.{SplitMix64}
 
@@ -43,7 +44,7 @@ kept-within w order kept e k h = let long : length order ≡ nonzeros w = ap len
 
 -- ---- the pass
 
-pub pass-holds : (u : ℕ → ℕ → Float) (n : ℕ) (w v t out : List Float) (rest : List ℕ) (ω : Float) (a b c : SplitMix64)
+pub pass-holds : (u : ℕ → ℕ → Float) (n : ℕ) (w v t out : List Float) (rest : List ℕ) (ω : Float) (a b c : Counted)
     → rest ≡ restOf w → ω ≡ absOf (at w (getD rest 0 0))
     → halvesOf v b ≡ halvedOnce plusZero u n ω rest (halvesOf w a)
     → halvesOf t c ≡ halvedOnce plusZero u n ω rest (halvesOf v b)

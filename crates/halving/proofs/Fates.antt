@@ -15,7 +15,7 @@ use Rattle.seq.specs.Sums.{plusZero, at}
 use Rattle.ieee.specs.Constants.{two}
 use Rattle.coloring.specs.Coloring.{Colored, coloringOf}
 use Rattle.weights.specs.Weights.{isOn}
-use Rattle.halve.specs.Halve.{Halved, halvedOnce, scaledColumns}
+use Rattle.halve.specs.Halve.{Halved, halvedBy, halvedOnce, scaledColumns}
 use Rattle.doubling.specs.Doubling.{halvedTo, remaining, sigmaOf}
 use Rattle.doubling.proofs.Turns.{length-halved}
 use Rattle.doubling.proofs.Once.{Distinct, Every, every-at, every-those, distinct-at, distinct-those}
@@ -86,7 +86,7 @@ module _ (z : Float) (u : ℕ → ℕ → Float) (n : ℕ) (ω : Float) (rest : 
       c = coloringOf z (scaledColumns u n (h .w) ω r) (length r) (suc n) (h .rng)
 
       after : Halved
-      after = record { w = halvedTo (h .w) r (c .x) (sigmaOf (c .x)) (length r); rng = c .rng }
+      after = halvedBy h r c
 
       nothing : (k : ℕ) → k ≡ 0 → h .w ≡ halvedTo (h .w) r (c .x) (sigmaOf (c .x)) k
       nothing k e = rw e (unfold halvedTo in refl)

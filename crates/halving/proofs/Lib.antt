@@ -11,3 +11,4 @@ pub mod Few
 pub mod Calls
 pub mod Starts
 pub mod Left
+pub mod Adding

@@ -18,8 +18,8 @@ use Rattle.coloring.specs.Coloring.{Colored}
 use Rattle.coloring.proofs.Starts.{starts-alike}
 use Rattle.weights.specs.Weights.{l1Of, sound, overAt, normalized}
 use Rattle.ranking.specs.Ranking.{restOf, omegaOf}
-use Rattle.doubling.specs.Doubling.{remaining, sigmaOf, halvedTo}
-use Rattle.halve.specs.Halve.{scaledColumns, Halved, halvedOnce}
+use Rattle.doubling.specs.Doubling.{remaining}
+use Rattle.halve.specs.Halve.{scaledColumns, Halved, halvedBy, halvedOnce}
 use Rattle.halving.specs.Halving.{halvedTwice, passOf}
 
 -- ---- the sum of magnitudes
@@ -72,7 +72,7 @@ module _ (u : ℕ → ℕ → Float) (n : ℕ) where
   unfolding halvedOnce
   once-same largest rest h =
       let r : List ℕ = remaining (h .w) rest in
-      ap (λ (c : Colored). pick (eqb (length r) 0) h (record { w = halvedTo (h .w) r (c .x) (sigmaOf (c .x)) (length r); rng = c .rng }))
+      ap (λ (c : Colored). pick (eqb (length r) 0) h (halvedBy h r c))
       (starts-alike (scaledColumns u n (h .w) largest r) (length r) (suc n) (h .rng))
 
   twice-same : (h : Halved) → halvedTwice minusZero u n h ≡ halvedTwice plusZero u n h

@@ -18,4 +18,4 @@ halvedTwice z u n h =
 unfoldable pub passOf : Float → (ℕ → ℕ → Float) → ℕ → Halved → Halved
 passOf z u n h =
     let t : Halved = halvedTwice z u n h in
-    record { w = normalized z (t .w); rng = t .rng }
+    record { w = normalized z (t .w); rng = t .rng; directions = t .directions; sweeps = t .sweeps }

@@ -1,7 +1,7 @@
 -- The sheets of C1 to C3, from their bytes to the bytes of their answers: the text is that of a sheet of the form, which says the job of the case,
 -- and the answer's text is computed from what the case claims of the job.
 use Prim.Native.Nat.{ℕ, zero, suc, _*_, _/_, _%_, _^_, _<_}
-use mathlib.Core.Path.{_≡_, refl}
+use mathlib.Core.Path.{_≡_, refl, ap, _∙_}
 use mathlib.Core.Bool.{true}
 use mathlib.Core.List.{List}
 use lib.Dec.{eqb, lit≤, lit<}
@@ -15,9 +15,9 @@ use Rattle.form.specs.Sheets.{Sheet, Wish, Fits, Says, ruleOf, wishFits}
 use Rattle.faults.specs.Faults.{jobFault}
 use Rattle.sparsification.specs.Answers.{refusal, answerOf, returned}
 use Rattle.sparsification.specs.declared.Answer.{Answer}
-use Rattle.sheet.specs.Answer.{sheetFault, jobAnswer, jobText, answerText, sheetAnswer}
+use Rattle.sheet.specs.Answer.{sheetFault, jobAnswer, jobText, okLine, answerText, sheetAnswer}
 use Rattle.rules.specs.declared.Rule.{Rule}
-use Rattle.knobthistle.specs.Cases.{matrix, by, called, Room}
+use Rattle.knobthistle.specs.Cases.{matrix, withoutCounts, by, called, Room}
 
 pub room : Room 2 2 (repeated plusZero 2) (repeated plusZero 100) (repeated 0 100)
 unfolding tabulate
@@ -25,7 +25,7 @@ room = record { places = refl; floats = lit≤ tt; words = lit≤ tt }
 
 -- what a case claims of every call it claims of the definitions
 module _ (weights : List Float) (rule : Rule) (answer : Answer) (v : List Float)
-    (claim : called weights (by rule) (λ output r output'. (r ≡ answer) × (output' ≡ v)))
+    (claim : called weights (by rule) (λ output r output'. (withoutCounts r ≡ answer) × (output' ≡ v)))
     (fault : jobFault rule 1 matrix 2 2 weights 2 100 100 ≡ 0) (good : answer .number ≡ 0) (seed : ℕ) where
   -- a sheet that names no edition means the first
   abbrev source : SplitMix64
@@ -35,7 +35,7 @@ module _ (weights : List Float) (rule : Rule) (answer : Answer) (v : List Float)
   given = pick (eqb (jobFault rule 1 matrix 2 2 weights 2 100 100) 0) (answerOf matrix 2 weights source rule)
       (refusal (jobFault rule 1 matrix 2 2 weights 2 100 100))
 
-  told : (given ≡ answer) × (pick (eqb (given .number) 0) (returned matrix 2 weights source rule .w) (repeated plusZero 2) ≡ v)
+  told : (withoutCounts given ≡ answer) × (pick (eqb (given .number) 0) (returned matrix 2 weights source rule .w) (repeated plusZero 2) ≡ v)
   unfolding tabulate
   told =
       claim rule seed 1 (repeated plusZero 2) (repeated plusZero 100) (repeated 0 100) given
@@ -44,11 +44,11 @@ module _ (weights : List Float) (rule : Rule) (answer : Answer) (v : List Float)
       (pick (eqb (given .number) 0) (repeated 0 100) (repeated 0 100)) refl refl room
       (record { answers = refl; writes = refl; floats = refl; words = refl })
 
-  pub answered-so : answerOf matrix 2 weights source rule ≡ answer
+  pub answered-so : withoutCounts (answerOf matrix 2 weights source rule) ≡ answer
   answered-so = rw fault at (told .0)
 
   pub returned-so : returned matrix 2 weights source rule .w ≡ v
-  returned-so = rw (told .0, good) at (told .1)
+  returned-so = rw (ap (λ (x : Answer). x .number) (told .0) ∙ good) at (told .1)
 
 -- ---- the sheet of a case
 
@@ -95,7 +95,7 @@ job-of text s y = rw (y .right, y .matrix, y .weights, y .rule, y .seed, y .edit
 
 -- what a job that is not refused has for its text
 pub text-of : (weights : List Float) (rule : Rule) (source : SplitMix64) (answer : Answer) (v : List Float) → sheetFault rule matrix 2 2 weights ≡ 0
-    → answerOf matrix 2 weights source rule ≡ answer → returned matrix 2 weights source rule .w ≡ v
+    → withoutCounts (answerOf matrix 2 weights source rule) ≡ answer → returned matrix 2 weights source rule .w ≡ v
     → jobText rule source matrix 2 2 weights ≡ answerText answer v
-unfolding jobAnswer
-text-of weights rule source answer v f a r = rw (f, a, r)
+unfolding jobAnswer answerText okLine
+text-of weights rule source answer v f a r = rw (f, ← a, r)

@@ -43,7 +43,7 @@ use Rattle.stages.proofs.Passing.{normal-start}
 use Rattle.sparsification.proofs.DemandThree.{Doubles}
 use Rattle.sparsification.proofs.Settled.{stage-alone, settled}
 use Rattle.knobthistle.specs.Cases.{table, hold, half, underHalf, quarter, threeQuarters, one, minusOne, three, minusThree, four, atOnce, oneLeft}
-use Rattle.knobthistle.specs.Cases.{smallest, matrix, by, any, thins, refuses, refusesRule, draws, uniform, Room, called, holds}
+use Rattle.knobthistle.specs.Cases.{smallest, matrix, withoutCounts, by, any, thins, refuses, refusesRule, draws, uniform, Room, called, holds}
 use Rattle.seq.specs.Lists.{repeated}
 use Rattle.fields.specs.Digits.{digitsOf}
 use Rattle.fields.specs.Texts.{widthIn}
@@ -135,20 +135,21 @@ module _ (a b : Float) (start : List Float) (is : normalized plusZero (a ∷ b �
       answers : (source : SplitMix64) (output numbers : List Float) (indices : List ℕ) (r : Answer) (output' numbers' : List Float) (indices' : List ℕ)
           → editionFault (source .edition) ≡ 0 → Room 2 2 output numbers indices
           → Thinned rule source matrix 2 2 (a ∷ b ∷ []) output numbers indices r output' numbers' indices'
-          → (r ≡ answerAt columns 2 start source k) × (output' ≡ v)
+          → (r ≡ answerAt columns 2 start source rule k) × (output' ≡ v)
       answers source output numbers indices r output' numbers' indices' known room job =
           let s = stop source normal-of in
           let f = fault-is rule (source .edition) a b output numbers indices ruled known room ∙ sound in
           let t = settled job doubles f k (subst (λ x. FirstStop plusZero columns 2 x source rule k) (sym is) (s .0)) in (
-            t .0 ∙ ap (λ x. answerAt columns 2 x source k) is,
+            t .0 ∙ ap (λ x. answerAt columns 2 x source rule k) is,
             t .1 ∙ ap (λ x. stageOf plusZero columns 2 x source k .w) is ∙ s .1,
           )
 
-      called-so : {answer : Answer} → ((source : SplitMix64) → Normal binary64 (length start) (at start) → answerAt columns 2 start source k ≡ answer)
-          → called (a ∷ b ∷ []) (by rule) (λ output r output'. (r ≡ answer) × (output' ≡ v))
+      called-so : {answer : Answer} → ((source : SplitMix64) → Normal binary64 (length start) (at start)
+          → withoutCounts (answerAt columns 2 start source rule k) ≡ answer)
+          → called (a ∷ b ∷ []) (by rule) (λ output r output'. (withoutCounts r ≡ answer) × (output' ≡ v))
       called-so e rule' seed edition output numbers indices r output' numbers' indices' c known room job =
           let t = answers (seeded seed edition) output numbers indices r output' numbers' indices' known room (rw c at job) in
-          (t .0 ∙ e (seeded seed edition) normal-of, t .1)
+          (ap withoutCounts (t .0) ∙ e (seeded seed edition) normal-of, t .1)
 
 at-0 : {start : List Float} {source : SplitMix64} {rule : Rule} → stops plusZero columns 2 start source rule 0 ≡ true
     → FirstStop plusZero columns 2 start source rule 0
@@ -208,13 +209,13 @@ module _ (source : SplitMix64) (normal : Normal binary64 2 (at shares)) where
   stops-3 = rw next-13
 
 -- what stage 1 answers, and stage 0
-answer-13 : (source : SplitMix64) → Normal binary64 2 (at shares) → answerAt columns 2 shares source 1 ≡ oneLeft half
+answer-13 : (rule : Rule) (source : SplitMix64) → Normal binary64 2 (at shares) → withoutCounts (answerAt columns 2 shares source rule 1) ≡ oneLeft half
 unfolding tabulate count ofBits ne maxChange changeTo maxAbsTo largerOf isNan lt sub mul add
-answer-13 source normal = rw (stage-0 shares source, next-13 source normal)
+answer-13 rule source normal = rw (stage-0 shares source, next-13 source normal)
 
-answer-13-first : (source : SplitMix64) → Normal binary64 2 (at shares) → answerAt columns 2 shares source 0 ≡ atOnce 2
+answer-13-first : (rule : Rule) (source : SplitMix64) → Normal binary64 2 (at shares) → withoutCounts (answerAt columns 2 shares source rule 0) ≡ atOnce 2
 unfolding tabulate count ofBits ne maxChange changeTo maxAbsTo largerOf isNan lt sub mul add
-answer-13-first source normal = rw (stage-0 shares source)
+answer-13-first rule source normal = rw (stage-0 shares source)
 
 ruled-1 : ruleFault (Within half Absent) ≡ 0
 unfolding ofBits le lt eq
@@ -262,9 +263,9 @@ module _ (source : SplitMix64) (normal : Normal binary64 2 (at halves)) where
   unfolding count ofBits ne
   stops-4 = rw next-11
 
-answer-11 : (source : SplitMix64) → Normal binary64 2 (at halves) → answerAt columns 2 halves source 1 ≡ oneLeft one
+answer-11 : (rule : Rule) (source : SplitMix64) → Normal binary64 2 (at halves) → withoutCounts (answerAt columns 2 halves source rule 1) ≡ oneLeft one
 unfolding tabulate count ofBits ne maxChange changeTo maxAbsTo largerOf isNan lt sub mul add
-answer-11 source normal = rw (stage-0 halves source, next-11 source normal)
+answer-11 rule source normal = rw (stage-0 halves source, next-11 source normal)
 
 -- ---- C5: weights -3 and 1
 
@@ -303,9 +304,9 @@ module _ (source : SplitMix64) (normal : Normal binary64 2 (at signed)) where
   unfolding count ofBits ne
   stops-5 = rw next-31
 
-answer-31 : (source : SplitMix64) → Normal binary64 2 (at signed) → answerAt columns 2 signed source 1 ≡ oneLeft half
+answer-31 : (rule : Rule) (source : SplitMix64) → Normal binary64 2 (at signed) → withoutCounts (answerAt columns 2 signed source rule 1) ≡ oneLeft half
 unfolding tabulate count ofBits ne maxChange changeTo maxAbsTo largerOf isNan lt sub mul add
-answer-31 source normal = rw (stage-0 signed source, next-31 source normal)
+answer-31 rule source normal = rw (stage-0 signed source, next-31 source normal)
 
 -- ---- C6: weights 4 and the smallest subnormal
 
@@ -328,9 +329,9 @@ lonely-one : (source : SplitMix64) → nonzeros (stageOf plusZero columns 2 lone
 unfolding stageOf count ofBits ne
 lonely-one source = refl
 
-answer-tiny : (source : SplitMix64) → Normal binary64 2 (at lonely) → answerAt columns 2 lonely source 0 ≡ atOnce 1
+answer-tiny : (rule : Rule) (source : SplitMix64) → Normal binary64 2 (at lonely) → withoutCounts (answerAt columns 2 lonely source rule 0) ≡ atOnce 1
 unfolding tabulate count ofBits ne maxChange changeTo maxAbsTo largerOf isNan lt sub mul add
-answer-tiny source normal = rw (stage-0 lonely source)
+answer-tiny rule source normal = rw (stage-0 lonely source)
 
 case-6 : holds (thins (four ∷ smallest ∷ []) any (atOnce 1) lonely)
 case-6 rule seed edition output numbers indices r output' numbers' indices' c =
@@ -340,7 +341,7 @@ case-6 rule seed edition output numbers indices r output' numbers' indices' c =
           (few-rests plusZero columns 2 lonely s rule 0 c (omega (arith, lonely-one s)))),
       stage-0 lonely s,
     ))
-    answer-tiny rule seed edition output numbers indices r output' numbers' indices' refl
+    (answer-tiny rule) rule seed edition output numbers indices r output' numbers' indices' refl
 
 -- ---- C7 and C14: refusals
 
@@ -391,21 +392,21 @@ case-11-below word e = ap (uniformAt 53) e ∙ largest .1
 case-1 : holds (thins (one ∷ three ∷ []) (by (Within half Absent)) (oneLeft half) (plusZero ∷ one ∷ []))
 case-1 =
     called-so one three shares start-13 doubles-13 sound-13 (Within half Absent) 1 (plusZero ∷ one ∷ []) ruled-1
-    (λ s n. (at-1 (goes-1 s n) (stops-1 s n), next-13 s n)) answer-13
+    (λ s n. (at-1 (goes-1 s n) (stops-1 s n), next-13 s n)) (answer-13 (Within half Absent))
 
 case-2 : holds (thins (one ∷ three ∷ []) (by (Within underHalf Absent)) (atOnce 2) shares)
 case-2 =
     called-so one three shares start-13 doubles-13 sound-13 (Within underHalf Absent) 0 shares ruled-2
-    (λ s n. (at-0 (stops-2 s n), stage-0 shares s)) answer-13-first
+    (λ s n. (at-0 (stops-2 s n), stage-0 shares s)) (answer-13-first (Within underHalf Absent))
 
 case-3 : holds (thins (one ∷ three ∷ []) (by (Within plusZero (AtMost 1))) (oneLeft half) (plusZero ∷ one ∷ []))
 case-3 =
     called-so one three shares start-13 doubles-13 sound-13 (Within plusZero (AtMost 1)) 1 (plusZero ∷ one ∷ []) ruled-3
-    (λ s n. (at-1 (goes-3 s n) (stops-3 s n), next-13 s n)) answer-13
+    (λ s n. (at-1 (goes-3 s n) (stops-3 s n), next-13 s n)) (answer-13 (Within plusZero (AtMost 1)))
 
 -- the weights 1 and 3 by a rule that is not refused
 module _ (rule : Rule) (answer : Answer) (v : List Float) (ruled : ruleFault rule ≡ 0) (good : answer .number ≡ 0)
-    (claim : called (one ∷ three ∷ []) (by rule) (λ output r output'. (r ≡ answer) × (output' ≡ v))) where
+    (claim : called (one ∷ three ∷ []) (by rule) (λ output r output'. (withoutCounts r ≡ answer) × (output' ≡ v))) where
   none-13 : jobFault rule 1 matrix 2 2 (one ∷ three ∷ []) 2 100 100 ≡ 0
   unfolding tabulate
   none-13 = fault-is rule 1 one three (repeated plusZero 2) (repeated plusZero 100) (repeated 0 100) ruled refl room ∙ sound-13
@@ -466,10 +467,10 @@ starred = (
             sheet-3,
             (
               called-so one one halves start-11 doubles-11 sound-11 (Target 1) 1 (one ∷ plusZero ∷ []) refl
-                  (λ s n. (at-1 (goes-4 s n) (stops-4 s n), next-11 s n)) answer-11,
+                  (λ s n. (at-1 (goes-4 s n) (stops-4 s n), next-11 s n)) (answer-11 (Target 1)),
               (
                 called-so minusThree one signed start-31 doubles-31 sound-31 (Target 1) 1 (minusOne ∷ plusZero ∷ []) refl
-                    (λ s n. (at-1 (goes-5 s n) (stops-5 s n), next-31 s n)) answer-31,
+                    (λ s n. (at-1 (goes-5 s n) (stops-5 s n), next-31 s n)) (answer-31 (Target 1)),
                 (case-6, (case-7, (case-10, (case-11, (case-11-below, (answered, (case-14, tt))))))),
               ),
             ),

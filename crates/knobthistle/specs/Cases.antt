@@ -31,7 +31,7 @@ pub data Rules : Type 0 where
   any : Rules
 
 pub data Case : Type 0 where
-  -- these weights by these rules, whatever the seed and the edition: the answer, and what is written
+  -- these weights by these rules, whatever the seed and the edition: the answer without its counts, and what is written
   thins : List Float → Rules → Answer → List Float → Case
   -- a sheet with this rule in it, whatever the seed that it says: the text of its answer
   onSheet : List ℕ → List ℕ → Case
@@ -88,6 +88,20 @@ smallest = ofBits binary64 1
 abbrev pub matrix : List Float
 matrix = one ∷ one ∷ one ∷ minusOne ∷ []
 
+-- an answer without its counts of directions and sweeps, of which document 01's cases say nothing
+abbrev pub withoutCounts : Answer → Answer
+withoutCounts r =
+    record {
+      number = r .number;
+      stage = r .stage;
+      nonzeros = r .nonzeros;
+      change = r .change;
+      directions = 0;
+      sweeps = 0;
+      «path_nonzeros» = r .«path_nonzeros»;
+      «path_change» = r .«path_change»;
+    }
+
 -- the answer with stage 0, where k are nonzero
 abbrev pub atOnce : ℕ → Answer
 atOnce k =
@@ -96,6 +110,8 @@ atOnce k =
       stage = 0;
       nonzeros = k;
       change = plusZero;
+      directions = 0;
+      sweeps = 0;
       «path_nonzeros» = k ∷ repeated 0 8;
       «path_change» = repeated plusZero 9;
     }
@@ -108,6 +124,8 @@ oneLeft change =
       stage = 1;
       nonzeros = 1;
       change = change;
+      directions = 0;
+      sweeps = 0;
       «path_nonzeros» = 2 ∷ 1 ∷ repeated 0 7;
       «path_change» = plusZero ∷ change ∷ repeated plusZero 7;
     }
@@ -166,7 +184,8 @@ called weights rules P =
     → P output r output'
 
 abbrev pub holds : Case → Type 0
-holds (thins weights rules answer written) = called weights rules (λ output r output'. (r ≡ answer) × (output' ≡ written))
+holds (thins weights rules answer written) =
+    called weights rules (λ output r output'. (withoutCounts r ≡ answer) × (output' ≡ written))
 holds (onSheet rule answer) = (seed : ℕ) → seed < 2 ^ 64 → sheetAnswer (sheetWith rule seed) ≡ answer
 holds (refuses weights rules number) = called weights rules (λ output r output'. (r ≡ refusal number) × (output' ≡ output))
 holds (refusesRule rule number) =

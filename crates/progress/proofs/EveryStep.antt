@@ -141,7 +141,7 @@ module _ (u : ℕ → ℕ → Float) (n : ℕ) (h : Halved) (normal : Normal bin
       let e : length once ≡ length w = length-once plusZero u n ω rest h in
       scaled-bounded u n once ω rest (subst (λ (m : ℕ). Columns m n u) (sym e) columns)
       (λ p g. subst (λ (m : ℕ). getD rest p 0 < m) (sym e) (rest-on w p g .below))
-      (heaviest-positive w doubles normal) (weighed-second w doubles normal u n (h .rng))
+      (heaviest-positive w doubles normal) (weighed-second w doubles normal u n (h .rng) (h .directions) (h .sweeps))
 
   -- both colourings, where they are clear
   pub pass-gets-somewhere : length w ≤ 256 → PassClear u n h → PassGetsSomewhere u n h

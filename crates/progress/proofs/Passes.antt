@@ -30,7 +30,7 @@ use Rattle.weights.specs.Weights.{isOn}
 use Rattle.ranking.specs.Ranking.{support, heavier, ranked, keptCount, restOf, omegaOf}
 use Rattle.doubling.specs.Doubling.{remaining, scaleAt}
 use Rattle.doubling.proofs.Once.{Every, none, both, every-at, every-put, every-map, every-those}
-use Rattle.halve.specs.Halve.{halvedOnce, scaledColumns}
+use Rattle.halve.specs.Halve.{Halved, halvedOnce, scaledColumns}
 use Rattle.halving.proofs.Rest.{rest-on, rest-distinct}
 use Rattle.halving.proofs.Fates.{Among, Moved, stays, doubled, zeroed, moved-once}
 use Rattle.bounded.proofs.Within.{Within, K}
@@ -174,12 +174,16 @@ module _ (w : List Float) (doubles : (j : ℕ) → T (fits binary64 (at w j))) (
   weighed-first = record { each = λ j a. record { ends = among-ends j a; most = twice-most (mag binary64 (at w j)) (mag binary64 ω) (among-most j a) } }
 
   -- and at the second, of what the first made of them
-  pub weighed-second : (u : ℕ → ℕ → Float) (n : ℕ) (rng : Generator) → Weighed (halvedOnce plusZero u n ω rest (record { w = w; rng = rng }) .w) ω rest
-  weighed-second u n rng =
-      record { each = λ j a. go j a (moved-once plusZero u n ω rest (record { w = w; rng = rng }) (rest-distinct w) (λ p h. rest-on w p h .below) j) }
+  pub weighed-second : (u : ℕ → ℕ → Float) (n : ℕ) (rng : Generator) (directions sweeps : ℕ)
+      → Weighed (halvedOnce plusZero u n ω rest (record { w = w; rng = rng; directions = directions; sweeps = sweeps }) .w) ω rest
+  weighed-second u n rng directions sweeps =
+      record { each = λ j a. go j a (moved-once plusZero u n ω rest from (rest-distinct w) (λ p h. rest-on w p h .below) j) }
     where
+      from : Halved
+      from = record { w = w; rng = rng; directions = directions; sweeps = sweeps }
+
       v : ℕ → Float
-      v j = at (halvedOnce plusZero u n ω rest (record { w = w; rng = rng }) .w) j
+      v j = at (halvedOnce plusZero u n ω rest from .w) j
 
       go : (j : ℕ) → Among rest j → Moved w rest j (v j) → Within binary64 (2 * mag binary64 ω) (v j)
       go j a (stays e) = subst (Within binary64 (2 * mag binary64 ω)) (sym e) (weighed-first .each j a)

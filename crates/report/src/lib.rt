@@ -31,6 +31,14 @@ pub fn print_answer(a: Answer) {
     print_bits(a.change);
 }
 
+// The directions and the sweeps of an answer, a tab before each.
+pub fn print_totals(a: Answer) {
+    tab();
+    io::print_decimal(1, a.directions);
+    tab();
+    io::print_decimal(1, a.sweeps);
+}
+
 // Weights, a tab before each.
 pub fn print_weights(w: &[f64]) {
     let mut j = 0usize;

@@ -54,7 +54,7 @@ module _ {rule : Rule} {source : SplitMix64} {u : List Float} {m n : ℕ} {w out
 
   -- the answer and the output then
   pub answer-stage : jobFault rule (source .edition) u m n w (length output) (length numbers) (length indices) ≡ 0
-      → r ≡ answerAt (columnsOf u n) n (normalized plusZero w) source (stopFor u n w source rule)
+      → r ≡ answerAt (columnsOf u n) n (normalized plusZero w) source rule (stopFor u n w source rule)
   unfolding answerOf
   answer-stage f = answer-there f
 

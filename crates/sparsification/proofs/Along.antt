@@ -1,5 +1,6 @@
 -- One accepted job: it keeps what its rule asks for, and the path in its answer. There are at most nine stages, each pass leaves at most half of the
--- nonzeros, rounded down, so that they fall strictly, every stage has one, and the single fields are the returned stage's entry.
+-- nonzeros, rounded down, so that they fall strictly, every stage has one, and the single fields are the returned stage's entry. And how much it draws
+-- and sweeps at most.
 use Prim.Native.Nat.{ℕ, zero, suc, _*_, _≤_, _<_}
 use mathlib.Core.Path.{_≡_, ap, _∙_}
 use mathlib.Core.Bool.{true}
@@ -22,9 +23,10 @@ use Rattle.rules.specs.declared.Rule.{Rule}
 use Rattle.stages.specs.Stages.{stageOf, movedBy}
 use Rattle.stages.specs.Stopping.{entriesAt}
 use Rattle.stages.proofs.Halting.{Falls, leads}
-use Rattle.stages.proofs.Lengths.{length-stage}
+use Rattle.stages.proofs.Lengths.{length-normalized, length-stage}
 use Rattle.stages.proofs.Passing.{falling, normal-stage}
 use Rattle.stages.proofs.Following.{path-at, nine-stages}
+use Rattle.stages.proofs.Totals.{job-directions, job-sweeps}
 use Rattle.sparsification.specs.Answers.{answerAt, stopFor, Thinned}
 use Rattle.sparsification.specs.Demand.{keeps}
 use Rattle.sparsification.specs.declared.Answer.{Answer}
@@ -47,10 +49,13 @@ module _ {rule : Rule} {source : SplitMix64} {u : List Float} {m n : ℕ} {w out
   normal : Normal binary64 (length start) (at start)
   normal = start-normal doubles fine
 
+  long : length start ≡ m
+  long = length-normalized plusZero w ∙ fine .sized .given
+
   falls : Falls plusZero (columnsOf u n) n start source
   falls = falling (columnsOf u n) n start source normal (start-few doubles fine)
 
-  is : r ≡ answerAt (columnsOf u n) n start source stop
+  is : r ≡ answerAt (columnsOf u n) n start source rule stop
   is = answer-stage job (number-none job ok)
 
   -- what the rule asks for
@@ -62,6 +67,14 @@ module _ {rule : Rule} {source : SplitMix64} {u : List Float} {m n : ℕ} {w out
   at-most-nine =
       rw is (nine-stages (columnsOf u n) n start source falls (start-few doubles fine) stop
       (leads plusZero (columnsOf u n) n start source falls rule (fine .ruled)))
+
+  -- at most eight directions for each weight, and at most 1600 sweeps
+  pub directions-few : r .directions ≤ 8 * m
+  directions-few =
+      rw is (omega (arith, job-directions (columnsOf u n) n start source falls (start-few doubles fine) rule (fine .ruled), long))
+
+  pub sweeps-few : r .sweeps ≤ 1600
+  sweeps-few = rw is (job-sweeps (columnsOf u n) n start source falls (start-few doubles fine) rule (fine .ruled))
 
   -- the single fields
   pub single-nonzeros : getD (r .«path_nonzeros») (r .stage) 0 ≡ r .nonzeros

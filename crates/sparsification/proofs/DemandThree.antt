@@ -36,7 +36,7 @@ Doubles w = (j : ℕ) → T (fits binary64 (at w j))
 module _ (u : ℕ → ℕ → Float) (n : ℕ) (start : List Float) (source : SplitMix64) (normal : Normal binary64 (length start) (at start))
     (few : length start ≤ 256) where
   pub kept-there : (rule : Rule) → ruleFault rule ≡ 0
-      → keeps rule (answerAt u n start source (stopOf plusZero u n start source rule)) ≡ true
+      → keeps rule (answerAt u n start source rule (stopOf plusZero u n start source rule)) ≡ true
   kept-there (Target t) f = target-kept plusZero u n start source (falling u n start source normal few) t f
   kept-there (Within a Absent) f = allowance-kept plusZero u n start source (falling u n start source normal few) a f (λ j l. normal .ends j l .ends)
   kept-there (Within a (AtMost c)) f = cap-kept plusZero u n start source (falling u n start source normal few) a c f

@@ -22,7 +22,7 @@ use Rattle.weights.specs.Weights.{normalized}
 use Rattle.halve.specs.Handed.{Ready}
 use Rattle.seq.proofs.Choosing.{holds, both-hold}
 use Rattle.stages.specs.Stages.{stageOf, movedBy}
-use Rattle.stages.specs.Stopping.{entriesAt, stopOf}
+use Rattle.stages.specs.Stopping.{entriesAt, stopOf, passesTo}
 use Rattle.stages.specs.Paths.{Noted, Followed}
 use Rattle.stages.specs.declared.Path.{Path}
 use Rattle.stages.proofs.Following.{path-at}
@@ -35,10 +35,10 @@ use Rattle.sparsification.proofs.Accepting.{Sized}
 use Rattle.draw.specs.declared.SplitMix64.{SplitMix64}
 
 -- the answer for the end of a path is that for its stage
-answer-noted : (u : ℕ → ℕ → Float) (n : ℕ) (start : List Float) (source : SplitMix64) (k : ℕ) (p : Path) → Noted u n start source k p
-    → answerFor p ≡ answerAt u n start source k
-answer-noted u n start source k p q =
-    rw (q .stage, q .nonzeros, q .change, path-at 0 (entriesAt plusZero u n start source) k k 0 (omega arith))
+answer-noted : (u : ℕ → ℕ → Float) (n : ℕ) (start : List Float) (source : SplitMix64) (rule : Rule) (k : ℕ) (p : Path)
+    → Noted u n start source k (passesTo plusZero u n start source rule k) p → answerFor p ≡ answerAt u n start source rule k
+answer-noted u n start source rule k p q =
+    rw (q .stage, q .nonzeros, q .change, q .directions, q .sweeps, path-at 0 (entriesAt plusZero u n start source) k k 0 (omega arith))
     (rw (path-at plusZero (λ i. movedBy u n start (stageOf plusZero u n start source i)) k k nan (omega arith)))
 
 -- a job from normalized weights: the stages were followed from a copy of them
@@ -48,7 +48,7 @@ pub done-from : (u : ℕ → ℕ → Float) (n : ℕ) (start : List Float) (sour
     → ThinnedFrom u n start source rule numbers indices r output' numbers' indices'
 done-from u n start source rule {copy} {output'} {p} copied follows numbers numbers' indices indices' r a N I =
     let f : Followed u n start source rule p output' = rw copied at follows in
-    record { answers = a ∙ answer-noted u n start source (stopOf plusZero u n start source rule) p (f .path); writes = f .weights; floats = N; words = I }
+    record { answers = a ∙ answer-noted u n start source rule (stopOf plusZero u n start source rule) p (f .path); writes = f .weights; floats = N; words = I }
 
 module _ (rule : Rule) (source : SplitMix64) (u : List Float) (m n : ℕ) (w output numbers : List Float) (indices : List ℕ) where
   -- refused

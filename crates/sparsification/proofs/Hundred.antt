@@ -11,7 +11,6 @@ use Rattle.seq.specs.Sums.{plusZero, at}
 use Rattle.limits.specs.Matrix.{columnsOf}
 use Rattle.ieee.proofs.Normalised.{Normal}
 use Rattle.weights.specs.Weights.{nonzeros, normalized}
-use Rattle.halve.specs.Handed.{halvesOf}
 use Rattle.halving.proofs.Fewer.{sum-sound}
 use Rattle.halving.proofs.Quarter.{pass-at-most}
 use Rattle.stages.specs.Stages.{stageOf}
@@ -33,11 +32,9 @@ module _ (u : ℕ → ℕ → Float) (n : ℕ) (start : List Float) (source : Sp
 
   after : entriesAt plusZero u n start source 1 ≤ 49
   unfolding stageOf
-  after = omega (
-    arith,
-    pass-at-most plusZero u n (halvesOf start source) (omega arith) (sum-sound u n (halvesOf start source) (omega arith) normal short),
-    many,
-  )
+  after =
+      let first = stageOf plusZero u n start source 0 in
+      omega (arith, pass-at-most plusZero u n first (omega arith) (sum-sound u n first (omega arith) normal short), many)
 
   goes-on : stops plusZero u n start source (Target 99) 0 ≡ false
   goes-on = rw before

@@ -39,13 +39,13 @@ module _ {rule : Rule} {source : SplitMix64} {u : List Float} {m n : ℕ} {w out
     (job : Thinned rule source u m n w output numbers indices r output' numbers' indices') (doubles : Doubles w)
     (sound : jobFault rule (source .edition) u m n w (length output) (length numbers) (length indices) ≡ 0)
     (k : ℕ) (stop : FirstStop plusZero (columnsOf u n) n (normalized plusZero w) source rule k) where
-  pub settled : (r ≡ answerAt (columnsOf u n) n (normalized plusZero w) source k)
+  pub settled : (r ≡ answerAt (columnsOf u n) n (normalized plusZero w) source rule k)
       × (output' ≡ stageOf plusZero (columnsOf u n) n (normalized plusZero w) source k .w)
   settled =
       let start : List Float = normalized plusZero w in
       let a = accepted rule (source .edition) u m n w (length output) (length numbers) (length indices) sound in
       let falls = falling (columnsOf u n) n start source (start-normal doubles a) (start-few doubles a) in
       let e = only plusZero (columnsOf u n) n start source (stop-is-first plusZero (columnsOf u n) n start source falls rule (a .ruled)) stop in (
-        answer-stage job sound ∙ ap (answerAt (columnsOf u n) n start source) e,
+        answer-stage job sound ∙ ap (answerAt (columnsOf u n) n start source rule) e,
         output-stage job (number-there job sound) ∙ ap (λ (i : ℕ). stageOf plusZero (columnsOf u n) n start source i .w) e,
       )

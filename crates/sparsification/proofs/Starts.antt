@@ -1,4 +1,4 @@
--- What a sum starts from, +0.0 or -0.0, reaches no answer: every stage is the same, and so are the stage at which a job stops and the number 9.
+-- What a sum starts from, +0.0 or -0.0, reaches no answer: every stage is the same, and so are the stage at which a job stops, its passes and the number 9.
 use Prim.Native.Nat.{ℕ, zero, suc}
 use mathlib.Core.Path.{_≡_, refl, ap, _∙_}
 use mathlib.Core.Bool.{Bool, not, _&&_, _||_}
@@ -14,7 +14,7 @@ use Rattle.halving.specs.Halving.{passOf}
 use Rattle.halving.proofs.Starts.{sound-same, normalized-same, pass-same}
 use Rattle.stages.specs.Stages.{stageOf, movedBy}
 use Rattle.rules.specs.Rules.{meets}
-use Rattle.stages.specs.Stopping.{rests, exceeds, stops, firstStop, stopOf}
+use Rattle.stages.specs.Stopping.{rests, exceeds, stops, firstStop, stopOf, passesTo}
 use Rattle.rules.specs.declared.Rule.{Rule}
 use Rattle.rules.specs.declared.Rule.the-variants.{Target, Within}
 use Rattle.draw.specs.declared.SplitMix64.{SplitMix64}
@@ -43,6 +43,9 @@ module _ (u : ℕ → ℕ → Float) (n : ℕ) (start : List Float) (source : Sp
   first-same rule zero i = refl
   first-same rule (suc k) i = λ j. pick (stops-same rule i j) i (first-same rule k (suc i) j)
 
+  passes-same : (rule : Rule) (i : ℕ) → passesTo minusZero u n start source rule i ≡ passesTo plusZero u n start source rule i
+  passes-same rule i = ap (λ (t : Bool). pick t i (suc i)) (rests-same rule i)
+
   stop-same : (rule : Rule) → stopOf minusZero u n start source rule ≡ stopOf plusZero u n start source rule
   stop-same rule = first-same rule (length start) 0
 
@@ -53,6 +56,11 @@ module _ (u : ℕ → ℕ → Float) (n : ℕ) (w : List Float) (source : SplitM
 
   pub stops-alike : (rule : Rule) → stopOf minusZero u n (normalized minusZero w) source rule ≡ stopOf plusZero u n (normalized plusZero w) source rule
   stops-alike rule = stop-same u n (normalized minusZero w) source rule ∙ ap (λ (start : List Float). stopOf plusZero u n start source rule) (normalized-same w)
+
+  pub passes-alike : (rule : Rule) (i : ℕ)
+      → passesTo minusZero u n (normalized minusZero w) source rule i ≡ passesTo plusZero u n (normalized plusZero w) source rule i
+  passes-alike rule i =
+      passes-same u n (normalized minusZero w) source rule i ∙ ap (λ (start : List Float). passesTo plusZero u n start source rule i) (normalized-same w)
 
 -- and the number 9 is the same
 pub nine-alike : (w : List Float) → _≡_ {A = ℕ} (pick (sound (l1Of minusZero w)) 0 9) (pick (sound (l1Of plusZero w)) 0 9)

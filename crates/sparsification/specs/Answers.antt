@@ -12,7 +12,7 @@ use Rattle.limits.specs.Matrix.{columnsOf}
 use Rattle.weights.specs.Weights.{nonzeros, normalized}
 use Rattle.halve.specs.Halve.{Halved}
 use Rattle.stages.specs.Stages.{stageOf, movedBy, pathNonzeros, pathChange}
-use Rattle.stages.specs.Stopping.{stopOf}
+use Rattle.stages.specs.Stopping.{stopOf, passesTo}
 use Rattle.faults.specs.Faults.{jobFault}
 use Rattle.sparsification.specs.declared.Answer.{Answer}
 use Rattle.rules.specs.declared.Rule.{Rule}
@@ -26,19 +26,25 @@ refusal number =
       stage = 0;
       nonzeros = 0;
       change = plusZero;
+      directions = 0;
+      sweeps = 0;
       «path_nonzeros» = repeated 0 9;
       «path_change» = repeated plusZero 9;
     }
 
--- the answer that returns stage k: its nonzeros, its change from the normalized weights, and both of every stage up to it
-abbrev pub answerAt : (ℕ → ℕ → Float) → ℕ → List Float → SplitMix64 → ℕ → Answer
-answerAt u n start source k =
+-- the answer by a rule that returns stage k: its nonzeros, its change from the normalized weights, the directions and the sweeps of all
+-- passes, a discarded one too, and nonzeros and change of every stage up to it
+abbrev pub answerAt : (ℕ → ℕ → Float) → ℕ → List Float → SplitMix64 → Rule → ℕ → Answer
+answerAt u n start source rule k =
     let s : Halved = stageOf plusZero u n start source k in
+    let last : Halved = stageOf plusZero u n start source (passesTo plusZero u n start source rule k) in
     record {
       number = 0;
       stage = k;
       nonzeros = nonzeros (s .w);
       change = movedBy u n start s;
+      directions = last .directions;
+      sweeps = last .sweeps;
       «path_nonzeros» = pathNonzeros plusZero u n start source k;
       «path_change» = pathChange plusZero u n start source k;
     }
@@ -53,7 +59,7 @@ returned u n w source rule = stageOf plusZero (columnsOf u n) n (normalized plus
 
 -- the answer of a job that is not refused
 unfoldable pub answerOf : List Float → ℕ → List Float → SplitMix64 → Rule → Answer
-answerOf u n w source rule = answerAt (columnsOf u n) n (normalized plusZero w) source (stopFor u n w source rule)
+answerOf u n w source rule = answerAt (columnsOf u n) n (normalized plusZero w) source rule (stopFor u n w source rule)
 
 -- The answer, the output and the scratch: a refusal changes nothing, and an accepted job writes its stage and zeroes the scratch.
 pub record Thinned (rule : Rule) (source : SplitMix64) (u : List Float) (m n : ℕ) (w output numbers : List Float) (indices : List ℕ)

@@ -14,7 +14,7 @@ use Rattle.sparsification.specs.declared.Answer.{Answer}
 use Rattle.rules.specs.declared.Rule.{Rule}
 use Rattle.draw.specs.declared.SplitMix64.{SplitMix64}
 
--- the stage at the end of the path, what the path has there, and the path
+-- the stage at the end of the path, what the path has there, its counts, and the path
 abbrev pub answerFor : Path → Answer
 answerFor p =
     record {
@@ -22,6 +22,8 @@ answerFor p =
       stage = p .stage;
       nonzeros = getD (p .nonzeros) (p .stage) 0;
       change = getD (p .change) (p .stage) nan;
+      directions = p .directions;
+      sweeps = p .sweeps;
       «path_nonzeros» = p .nonzeros;
       «path_change» = p .change;
     }
@@ -30,7 +32,7 @@ answerFor p =
 pub record ThinnedFrom (u : ℕ → ℕ → Float) (n : ℕ) (start : List Float) (source : SplitMix64) (rule : Rule) (numbers : List Float)
     (indices : List ℕ)
     (r : Answer) (output' numbers' : List Float) (indices' : List ℕ) : Type 0 where
-  pub answers : r ≡ answerAt u n start source (stopOf plusZero u n start source rule)
+  pub answers : r ≡ answerAt u n start source rule (stopOf plusZero u n start source rule)
   pub writes : output' ≡ stageOf plusZero u n start source (stopOf plusZero u n start source rule) .w
   pub floats : numbers' ≡ repeated plusZero (length numbers)
   pub words : indices' ≡ repeated 0 (length indices)

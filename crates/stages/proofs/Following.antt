@@ -25,10 +25,11 @@ use Rattle.halve.specs.Handed.{halvesOf}
 use Rattle.halving.specs.Halving.{passOf}
 use Rattle.stages.specs.Stages.{stageOf, movedBy, pathOf}
 use Rattle.rules.specs.Rules.{meets, ruleFault}
-use Rattle.stages.specs.Stopping.{entriesAt, above, rests, exceeds, stops, stopOf}
+use Rattle.stages.specs.Stopping.{entriesAt, above, rests, exceeds, stops, stopOf, passesTo}
 use Rattle.stages.specs.Paths.{Noted, Followed}
 use Rattle.stages.specs.declared.Path.{Path}
 use Rattle.trial.specs.Trial.{TriedOnce, aboveAfter}
+use Rattle.coloring.specs.declared.Counted.{Counted}
 use Rattle.rules.specs.declared.Cap.{Cap}
 use Rattle.rules.specs.declared.Rule.{Rule}
 use Rattle.rules.specs.declared.Rule.the-variants.{Target, Within}
@@ -79,34 +80,40 @@ neither-holds a b h g = rw (h, g)
 
 module _ (u : ℕ → ℕ → Float) (n : ℕ) (start : List Float) (source : SplitMix64) where
   -- stage i has been reached, with its weights and its generator, and no stage before it stops
-  pub record OnPath (rule : Rule) (i : ℕ) (w : List Float) (rng : SplitMix64) : Type 0 where
-    pub there : halvesOf w rng ≡ stageOf plusZero u n start source i
+  pub record OnPath (rule : Rule) (i : ℕ) (w : List Float) (tally : Counted) : Type 0 where
+    pub there : halvesOf w tally ≡ stageOf plusZero u n start source i
     pub before : (j : ℕ) → j < i → stops plusZero u n start source rule j ≡ false
     pub near : i ≤ 8
     pub room : 2 ^ i * nonzeros w ≤ 256
     pub long : length w ≡ length start
 
-  pub on-start : length start ≤ 256 → (rule : Rule) → OnPath rule 0 start source
+  pub on-start : length start ≤ 256 → (rule : Rule) (tally : Counted) → tally .rng ≡ source → tally .directions ≡ 0 → tally .sweeps ≡ 0
+      → OnPath rule 0 start tally
   unfolding stageOf
-  on-start few rule =
+  on-start few rule tally seeded none unswept =
       record {
-        there = refl;
+        there = rw (seeded, none, unswept);
         before = λ j l. absurd (omega arith);
         near = omega arith;
         room = omega (arith, count-short (isOn start) (length start));
         long = refl;
       }
 
-  -- the next stage is the pass from there
-  abbrev pub passFrom : List Float → SplitMix64 → Halved
-  passFrom w rng = passOf plusZero u n (halvesOf w rng)
+  -- the directions and the sweeps of the passes to stage i
+  pub record Tallied (i : ℕ) (tally : Counted) : Type 0 where
+    pub directions : tally .directions ≡ stageOf plusZero u n start source i .directions
+    pub sweeps : tally .sweeps ≡ stageOf plusZero u n start source i .sweeps
 
-  module _ {rule : Rule} {i : ℕ} {w : List Float} {rng : SplitMix64} (on : OnPath rule i w rng) where
-    next-there : passFrom w rng ≡ stageOf plusZero u n start source (suc i)
+  -- the next stage is the pass from there
+  abbrev pub passFrom : List Float → Counted → Halved
+  passFrom w tally = passOf plusZero u n (halvesOf w tally)
+
+  module _ {rule : Rule} {i : ℕ} {w : List Float} {tally : Counted} (on : OnPath rule i w tally) where
+    next-there : passFrom w tally ≡ stageOf plusZero u n start source (suc i)
     unfolding stageOf
     next-there = ap (passOf plusZero u n) (on .there)
 
-    next-weights : stageOf plusZero u n start source (suc i) .w ≡ passFrom w rng .w
+    next-weights : stageOf plusZero u n start source (suc i) .w ≡ passFrom w tally .w
     next-weights = ap (λ (h : Halved). h .w) (sym next-there)
 
     weights-there : w ≡ stageOf plusZero u n start source i .w
@@ -114,6 +121,10 @@ module _ (u : ℕ → ℕ → Float) (n : ℕ) (start : List Float) (source : Sp
 
     entries-there : entriesAt plusZero u n start source i ≡ nonzeros w
     entries-there = ap nonzeros (sym weights-there)
+
+    -- what was counted on the way
+    pub on-tallied : Tallied i tally
+    on-tallied = record { directions = ap (λ (h : Halved). h .directions) (on .there); sweeps = ap (λ (h : Halved). h .sweeps) (on .there) }
 
   -- a stage after the first that measures above the allowance and meets the cap ends the job
   abbrev pub closes : Float → Cap → ℕ → Bool
@@ -133,7 +144,7 @@ module _ (u : ℕ → ℕ → Float) (n : ℕ) (start : List Float) (source : Sp
     pub counts : Filled (entriesAt plusZero u n start source) (repeated 0 9) (i + 1) nonzeros
     pub moves : Filled movedAt (repeated plusZero 9) (i + 1) change
 
-  module _ {rule : Rule} {i : ℕ} {w : List Float} {rng : SplitMix64} (on : OnPath rule i w rng) {k : ℕ} {x : Float}
+  module _ {rule : Rule} {i : ℕ} {w : List Float} {tally : Counted} (on : OnPath rule i w tally) {k : ℕ} {x : Float}
       (counted : k ≡ nonzeros w) (measured : x ≡ maxChange u (length start) n start w) where
     count-is : k ≡ entriesAt plusZero u n start source i
     count-is = counted ∙ sym (entries-there on)
@@ -148,29 +159,33 @@ module _ (u : ℕ → ℕ → Float) (n : ℕ) (start : List Float) (source : Sp
         → Written i (set ns i k) (set cs i x)
     note a b = record { counts = turn a (room-at 0) count-is; moves = turn b (room-at plusZero) move-is }
 
-  pub note-first : length start ≤ 256 → {k : ℕ} {x : Float} → k ≡ nonzeros start → x ≡ maxChange u (length start) n start start
-      → Written 0 (set (repeated 0 9) 0 k) (set (repeated plusZero 9) 0 x)
-  note-first few counted measured = note (on-start few (Target 1)) counted measured (filling.start _ _) (filling.start _ _)
+  pub note-first : {rule : Rule} {tally : Counted} → OnPath rule 0 start tally → {k : ℕ} {x : Float} → k ≡ nonzeros start
+      → x ≡ maxChange u (length start) n start start → Written 0 (set (repeated 0 9) 0 k) (set (repeated plusZero 9) 0 x)
+  note-first on counted measured = note on counted measured (filling.start _ _) (filling.start _ _)
 
-  -- it is the path of the definition
-  pub noted : {i : ℕ} {ns : List ℕ} {cs : List Float} → i ≤ 8 → Written i ns cs → (r : Path) → r .stage ≡ i → r .nonzeros ≡ ns → r .change
-      ≡ cs → Noted u n start source i r
-  noted {i} near p r s a b =
+  -- it is the path of the definition, with the counts of its passes
+  pub noted : {i passes : ℕ} {ns : List ℕ} {cs : List Float} {tally : Counted} → i ≤ 8 → Written i ns cs → Tallied passes tally
+      → (r : Path) → r .stage ≡ i → r .nonzeros ≡ ns → r .change ≡ cs → r .directions ≡ tally .directions → r .sweeps ≡ tally .sweeps
+      → Noted u n start source i passes r
+  noted {i} near p t r s a b d e =
       record {
         near = near;
         stage = s;
         nonzeros = a ∙ p .counts .is ∙ zeros-after 0 (entriesAt plusZero u n start source) i near;
         change = b ∙ p .moves .is ∙ zeros-after plusZero movedAt i near;
+        directions = d ∙ t .directions;
+        sweeps = e ∙ t .sweeps;
       }
 
-  module _ (falls : Falls plusZero u n start source) {rule : Rule} {i : ℕ} {w : List Float} {rng : SplitMix64}
-      (accepted : ruleFault rule ≡ 0) (on : OnPath rule i w rng) where
+  module _ (falls : Falls plusZero u n start source) {rule : Rule} {i : ℕ} {w : List Float} {tally : Counted}
+      (accepted : ruleFault rule ≡ 0) (on : OnPath rule i w tally) where
     -- one more stage
-    module _ {w' : List Float} {rng' : SplitMix64} (goes-on : stops plusZero u n start source rule i ≡ false) (pass : halvesOf w' rng' ≡ passFrom w rng) where
+    module _ {w' : List Float} {tally' : Counted} (goes-on : stops plusZero u n start source rule i ≡ false)
+        (pass : halvesOf w' tally' ≡ passFrom w tally) where
       below : (j : ℕ) → j < suc i → stops plusZero u n start source rule j ≡ false
       below = below-more plusZero u n start source rule i (on .before) goes-on
 
-      is-next : halvesOf w' rng' ≡ stageOf plusZero u n start source (suc i)
+      is-next : halvesOf w' tally' ≡ stageOf plusZero u n start source (suc i)
       is-next = pass ∙ next-there on
 
       pub some : 2 ≤ nonzeros w
@@ -184,7 +199,7 @@ module _ (u : ℕ → ℕ → Float) (n : ℕ) (start : List Float) (source : Sp
       pub fewer : nonzeros w' < nonzeros w
       fewer = omega (arith, half, some)
 
-      pub next-on : OnPath rule (i + 1) w' rng'
+      pub next-on : OnPath rule (i + 1) w' tally'
       next-on =
           rw (add-one i)
           (record {
@@ -192,106 +207,114 @@ module _ (u : ℕ → ℕ → Float) (n : ℕ) (start : List Float) (source : Sp
             before = below;
             near = eight i (nonzeros w) (on .room) some;
             room = halved i (nonzeros w) (nonzeros w') half (on .room);
-            long = ap (λ (h : Halved). length (h .w)) pass ∙ length-pass plusZero u n (halvesOf w rng) ∙ on .long;
+            long = ap (λ (h : Halved). length (h .w)) pass ∙ length-pass plusZero u n (halvesOf w tally) ∙ on .long;
           })
 
     -- the ways out: the stage is returned
-    module _ {r : Path} (path : Noted u n start source i r) where
-      ended : stops plusZero u n start source rule i ≡ true → Followed u n start source rule r w
-      ended h =
+    module _ {r : Path} where
+      ended : Noted u n start source i (passesTo plusZero u n start source rule i) r → stops plusZero u n start source rule i ≡ true
+          → Followed u n start source rule r w
+      ended path h =
           let stop : stopOf plusZero u n start source rule ≡ i =
           only plusZero u n start source (stop-is-first plusZero u n start source falls rule accepted) (record { there = h; before = on .before }) in
           record { path = rw stop path; weights = rw stop (weights-there on) }
 
-      pub rested : rests plusZero u n start source rule i ≡ true → Followed u n start source rule r w
-      rested h = ended (first-holds (rests plusZero u n start source rule i) _ h)
+      pub rested : Noted u n start source i i r → rests plusZero u n start source rule i ≡ true → Followed u n start source rule r w
+      rested path h = ended (rw h path) (first-holds (rests plusZero u n start source rule i) _ h)
 
-      pub exceeded : exceeds plusZero u n start source rule i ≡ true → Followed u n start source rule r w
-      exceeded h = ended (second-holds (rests plusZero u n start source rule i) _ h)
+      pub exceeded : Noted u n start source i (suc i) r → rests plusZero u n start source rule i ≡ false → exceeds plusZero u n start source rule i ≡ true
+          → Followed u n start source rule r w
+      exceeded path g h = ended (rw g path) (second-holds (rests plusZero u n start source rule i) _ h)
 
   -- the job with a target
-  module _ (falls : Falls plusZero u n start source) {t i : ℕ} {w : List Float} {rng : SplitMix64} (positive : 0 < t) (on : OnPath (Target t) i w rng) where
-    pub target-met : nonzeros w ≤ t → {r : Path} → Noted u n start source i r → Followed u n start source (Target t) r w
+  module _ (falls : Falls plusZero u n start source) {t i : ℕ} {w : List Float} {tally : Counted} (positive : 0 < t) (on : OnPath (Target t) i w tally) where
+    pub target-met : nonzeros w ≤ t → {r : Path} → Noted u n start source i i r → Followed u n start source (Target t) r w
     target-met h path = rested falls (target-fine t positive) on path (le-leb (entriesAt plusZero u n start source i) t (rw (entries-there on) h))
 
-    module _ {w' : List Float} {rng' : SplitMix64} (more : t < nonzeros w) (pass : halvesOf w' rng' ≡ passFrom w rng) where
+    module _ {w' : List Float} {tally' : Counted} (more : t < nonzeros w) (pass : halvesOf w' tally' ≡ passFrom w tally) where
       missed : stops plusZero u n start source (Target t) i ≡ false
       missed = neither-holds (rests plusZero u n start source (Target t) i) false
           (lt-leb (entriesAt plusZero u n start source i) t (rw (entries-there on) more)) refl
 
-      pub target-next : OnPath (Target t) (i + 1) w' rng'
+      pub target-next : OnPath (Target t) (i + 1) w' tally'
       target-next = next-on falls (target-fine t positive) on missed pass
 
       pub target-fewer : nonzeros w' < nonzeros w
       target-fewer = fewer falls (target-fine t positive) on missed pass
 
   -- the job with an allowance
-  module _ (falls : Falls plusZero u n start source) {a : Float} {c : Cap} {i : ℕ} {w : List Float} {rng : SplitMix64}
-      (accepted : ruleFault (Within a c) ≡ 0) (on : OnPath (Within a c) i w rng) where
-    pub allowance-met : nonzeros w ≤ 1 → {r : Path} → Noted u n start source i r → Followed u n start source (Within a c) r w
+  module _ (falls : Falls plusZero u n start source) {a : Float} {c : Cap} {i : ℕ} {w : List Float} {tally : Counted}
+      (accepted : ruleFault (Within a c) ≡ 0) (on : OnPath (Within a c) i w tally) where
+    pub allowance-met : nonzeros w ≤ 1 → {r : Path} → Noted u n start source i i r → Followed u n start source (Within a c) r w
     allowance-met h path =
         rested falls accepted on path
         (first-holds (leb (entriesAt plusZero u n start source i) 1) _ (le-leb (entriesAt plusZero u n start source i) 1 (rw (entries-there on) h)))
 
-    after-is : above plusZero u n start source a (suc i) ≡ aboveAfter u n start a w rng
+    after-is : above plusZero u n start source a (suc i) ≡ aboveAfter u n start a w tally
     after-is = ap (λ (x : List Float). not (le (maxChange u (length start) n start x) a)) (next-weights on)
 
-    exceeds-is : exceeds plusZero u n start source (Within a c) i ≡ (aboveAfter u n start a w rng && meets c (nonzeros w))
+    exceeds-is : exceeds plusZero u n start source (Within a c) i ≡ (aboveAfter u n start a w tally && meets c (nonzeros w))
     exceeds-is =
         and-comm (meets c (entriesAt plusZero u n start source i)) (above plusZero u n start source a (suc i))
         ∙ ap (λ (t : Bool). t && meets c (entriesAt plusZero u n start source i)) after-is
-        ∙ ap (λ (k : ℕ). aboveAfter u n start a w rng && meets c k) (entries-there on)
+        ∙ ap (λ (k : ℕ). aboveAfter u n start a w tally && meets c k) (entries-there on)
 
-    module _ {r : Tried} {w' : List Float} (goes-on : closes a c i ≡ false) (more : 1 < nonzeros w) (tried : TriedOnce u n start a c w rng r w') where
+    module _ {r : Tried} {w' : List Float} (goes-on : closes a c i ≡ false) (more : 1 < nonzeros w) (tried : TriedOnce u n start a c w tally r w') where
       unrested : rests plusZero u n start source (Within a c) i ≡ false
       unrested = rw (lt-leb (entriesAt plusZero u n start source i) 1 (rw (entries-there on) more)) goes-on
 
+      -- what was counted with the pass
+      pub tried-tallied : Tallied (suc i) (r .tally)
+      tried-tallied =
+          let comes-to = tried .pass ∙ next-there on in
+          record { directions = ap (λ (h : Halved). h .directions) comes-to; sweeps = ap (λ (h : Halved). h .sweeps) comes-to }
+
       -- the pass was not taken
-      pub allowance-left : r .taken ≡ false → {p : Path} → Noted u n start source i p → Followed u n start source (Within a c) p w'
+      pub allowance-left : r .taken ≡ false → {p : Path} → Noted u n start source i (suc i) p → Followed u n start source (Within a c) p w'
       allowance-left t path =
-          let stays : w' ≡ w = tried .weights ∙ ap (λ (b : Bool). pick b (passFrom w rng .w) w) t in
+          let stays : w' ≡ w = tried .weights ∙ ap (λ (b : Bool). pick b (passFrom w tally .w) w) t in
           rw stays
-          (exceeded falls accepted on path (exceeds-is ∙ not-false (aboveAfter u n start a w rng && meets c (nonzeros w)) (sym (tried .taken) ∙ t)))
+          (exceeded falls accepted on path unrested (exceeds-is ∙ not-false (aboveAfter u n start a w tally && meets c (nonzeros w)) (sym (tried .taken) ∙ t)))
 
       -- it was
       module _ (taken : r .taken ≡ true) where
-        moves : w' ≡ passFrom w rng .w
-        moves = tried .weights ∙ ap (λ (b : Bool). pick b (passFrom w rng .w) w) taken
+        moves : w' ≡ passFrom w tally .w
+        moves = tried .weights ∙ ap (λ (b : Bool). pick b (passFrom w tally .w) w) taken
 
-        is-pass : halvesOf w' (r .rng) ≡ passFrom w rng
-        is-pass = λ k. halvesOf (moves k) (tried .draws k)
+        is-pass : halvesOf w' (r .tally) ≡ passFrom w tally
+        is-pass = ap (λ (x : List Float). halvesOf x (r .tally)) moves ∙ tried .pass
 
         unstopped : stops plusZero u n start source (Within a c) i ≡ false
         unstopped =
             neither-holds (rests plusZero u n start source (Within a c) i) (exceeds plusZero u n start source (Within a c) i) unrested
-            (exceeds-is ∙ not-true (aboveAfter u n start a w rng && meets c (nonzeros w)) (sym (tried .taken) ∙ taken))
+            (exceeds-is ∙ not-true (aboveAfter u n start a w tally && meets c (nonzeros w)) (sym (tried .taken) ∙ taken))
 
-        pub allowance-on : OnPath (Within a c) (i + 1) w' (r .rng)
+        pub allowance-on : OnPath (Within a c) (i + 1) w' (r .tally)
         allowance-on = next-on falls accepted on unstopped is-pass
 
         pub allowance-fewer : nonzeros w' < nonzeros w
         allowance-fewer = fewer falls accepted on unstopped is-pass
 
-        closes-is : closes a c (i + 1) ≡ (aboveAfter u n start a w rng && meets c (nonzeros w'))
+        closes-is : closes a c (i + 1) ≡ (aboveAfter u n start a w tally && meets c (nonzeros w'))
         closes-is =
             rw (add-one i, lt-ltb 0 (suc i) (omega arith))
             (ap (λ (t : Bool). t && meets c (entriesAt plusZero u n start source (suc i))) after-is
-            ∙ ap (λ (k : ℕ). aboveAfter u n start a w rng && meets c k) (ap nonzeros (next-weights on ∙ sym moves)))
+            ∙ ap (λ (k : ℕ). aboveAfter u n start a w tally && meets c k) (ap nonzeros (next-weights on ∙ sym moves)))
 
-        more-is : r .more ≡ not (aboveAfter u n start a w rng && meets c (nonzeros w'))
-        more-is = tried .more ∙ ap (λ (b : Bool). b && not (aboveAfter u n start a w rng && meets c (nonzeros w'))) taken
+        more-is : r .more ≡ not (aboveAfter u n start a w tally && meets c (nonzeros w'))
+        more-is = tried .more ∙ ap (λ (b : Bool). b && not (aboveAfter u n start a w tally && meets c (nonzeros w'))) taken
 
         pub allowance-goes : r .more ≡ true → closes a c (i + 1) ≡ false
-        allowance-goes m = closes-is ∙ not-true (aboveAfter u n start a w rng && meets c (nonzeros w')) (sym more-is ∙ m)
+        allowance-goes m = closes-is ∙ not-true (aboveAfter u n start a w tally && meets c (nonzeros w')) (sym more-is ∙ m)
 
         pub measured : r .change ≡ maxChange u (length start) n start w'
         measured = tried .change ∙ ap (maxChange u (length start) n start) (sym moves)
 
-        pub allowance-last : r .more ≡ false → {p : Path} → Noted u n start source (i + 1) p → Followed u n start source (Within a c) p w'
+        pub allowance-last : r .more ≡ false → {p : Path} → Noted u n start source (i + 1) (i + 1) p → Followed u n start source (Within a c) p w'
         allowance-last m path =
             rested falls accepted allowance-on path
             (second-holds (leb (entriesAt plusZero u n start source (i + 1)) 1) _
-            (closes-is ∙ not-false (aboveAfter u n start a w rng && meets c (nonzeros w')) (sym more-is ∙ m)))
+            (closes-is ∙ not-false (aboveAfter u n start a w tally && meets c (nonzeros w')) (sym more-is ∙ m)))
 
   -- ---- how many stages there are
 

@@ -11,7 +11,7 @@ use Rattle.seq.proofs.Filling.{length-tab}
 use Rattle.coloring.specs.Coloring.{Colored, coloringOf}
 use Rattle.weights.specs.Weights.{normalized}
 use Rattle.ranking.specs.Ranking.{restOf, omegaOf}
-use Rattle.halve.specs.Halve.{Halved, scaledColumns, halvedOnce}
+use Rattle.halve.specs.Halve.{Halved, scaledColumns, halvedBy, halvedOnce}
 use Rattle.doubling.specs.Doubling.{remaining, sigmaOf, halvedTo}
 use Rattle.halving.specs.Halving.{halvedTwice, passOf}
 use Rattle.stages.specs.Stages.{stageOf}
@@ -31,7 +31,7 @@ unfolding halvedOnce
 length-once z u n omega rest h =
     let r : List ℕ = remaining (h .w) rest in
     let c : Colored = coloringOf z (scaledColumns u n (h .w) omega r) (length r) (suc n) (h .rng) in
-    go (eqb (length r) 0) (record { w = halvedTo (h .w) r (c .x) (sigmaOf (c .x)) (length r); rng = c .rng })
+    go (eqb (length r) 0) (halvedBy h r c)
     (length-halved (h .w) r (c .x) (sigmaOf (c .x)) (length r))
   where
     go : (t : Bool) (k : Halved) → length (k .w) ≡ length (h .w) → length (pick t h k .w) ≡ length (h .w)

@@ -3,3 +3,5 @@ pub mod Halting
 pub mod Lengths
 pub mod Following
 pub mod Passing
+pub mod Totals
+pub mod Drawing

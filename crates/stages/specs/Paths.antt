@@ -5,20 +5,22 @@ use mathlib.Core.List.{List}
 use lib.Ieee.{Float}
 use Rattle.seq.specs.Sums.{plusZero}
 use Rattle.stages.specs.Stages.{stageOf, pathNonzeros, pathChange}
-use Rattle.stages.specs.Stopping.{stopOf}
+use Rattle.stages.specs.Stopping.{stopOf, passesTo}
 use Rattle.stages.specs.declared.Path.{Path}
 use Rattle.rules.specs.declared.Rule.{Rule}
 use Rattle.draw.specs.declared.SplitMix64.{SplitMix64}
 
--- the path to the stage k
-pub record Noted (u : ℕ → ℕ → Float) (n : ℕ) (start : List Float) (source : SplitMix64) (k : ℕ) (r : Path) : Type 0 where
+-- the path to the stage k, and the counts of so many passes
+pub record Noted (u : ℕ → ℕ → Float) (n : ℕ) (start : List Float) (source : SplitMix64) (k passes : ℕ) (r : Path) : Type 0 where
   pub near : k ≤ 8
   pub stage : r .stage ≡ k
   pub nonzeros : r .nonzeros ≡ pathNonzeros plusZero u n start source k
   pub change : r .change ≡ pathChange plusZero u n start source k
+  pub directions : r .directions ≡ stageOf plusZero u n start source passes .directions
+  pub sweeps : r .sweeps ≡ stageOf plusZero u n start source passes .sweeps
 
--- the stage that was reached is the one at which the rule stops, and w holds it
+-- the stage that was reached is the one at which the rule stops, after its passes, and w holds it
 pub record Followed (u : ℕ → ℕ → Float) (n : ℕ) (start : List Float) (source : SplitMix64) (rule : Rule)
     (r : Path) (w : List Float) : Type 0 where
-  pub path : Noted u n start source (stopOf plusZero u n start source rule) r
+  pub path : let k = stopOf plusZero u n start source rule in Noted u n start source k (passesTo plusZero u n start source rule k) r
   pub weights : w ≡ stageOf plusZero u n start source (stopOf plusZero u n start source rule) .w

@@ -14,9 +14,10 @@ use Rattle.halving.specs.Halving.{passOf}
 use Rattle.margins.specs.Margins.{maxChange}
 use Rattle.draw.specs.declared.SplitMix64.{SplitMix64}
 
--- stage i from the normalized weights and the generator that a job starts with: weights, and the generator after them
+-- stage i from the normalized weights and the generator that a job starts with: weights, the generator after them, and what the passes
+-- to it drew and swept
 unfoldable pub stageOf : Float → (ℕ → ℕ → Float) → ℕ → List Float → SplitMix64 → ℕ → Halved
-stageOf z u n start source zero = record { w = start; rng = source }
+stageOf z u n start source zero = record { w = start; rng = source; directions = 0; sweeps = 0 }
 stageOf z u n start source (suc i) = passOf z u n (stageOf z u n start source i)
 
 -- how far the margins have moved from the normalized weights, at the worst row

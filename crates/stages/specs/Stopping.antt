@@ -43,3 +43,8 @@ module _ (z : Float) (u : ℕ → ℕ → Float) (n : ℕ) (start : List Float) 
   -- The stage at which the job stops. Every pass leaves fewer nonzeros, so that there are fewer stages than weights.
   abbrev pub stopOf : Rule → ℕ
   stopOf rule = firstStop rule (length start) 0
+
+  -- The passes of a job that stops at stage i: those to it, and one more where it was returned only after a look at the next, which is
+  -- discarded.
+  abbrev pub passesTo : Rule → ℕ → ℕ
+  passesTo rule i = pick (rests rule i) i (suc i)

@@ -1,4 +1,5 @@
 // How a job follows the stages to the one at which it stops.
+use coloring::Counted;
 use draw::SplitMix64;
 use halving::halving_pass;
 use margins::change_of;
@@ -18,9 +19,12 @@ ghost use Rattle.stages.specs.Paths.{Followed};
 ghost use Rattle.rules.specs.Rules.{ruleFault};
 ghost use Rattle.rules.specs.declared.Rule.the-variants.{Target, Within};
 
-// The stage that a job has reached, and the nonzero entries and the change of each stage from 0 to it; zeros after it.
+// The stage that a job has reached, the directions and the sweeps of all its passes, and the nonzero entries and the change of each stage
+// from 0 to it; zeros after it.
 pub struct Path {
     pub stage: usize,
+    pub directions: usize,
+    pub sweeps: usize,
     pub nonzeros: [u64; 9],
     pub change: [f64; 9],
 }
@@ -40,7 +44,11 @@ fn to_target(
         × (0 < target) ⌝ }
     ensures { λ r. ⌜ Followed (columnsOf (now (matrix .entry)) n) n (now (w .entry)) source (Target target) r (now (w .exit)) ⌝ }
 {
-    let mut rng = source;
+    let mut tally = Counted {
+        directions: 0,
+        sweeps: 0,
+        rng: source,
+    };
     let mut stage = 0usize;
     let mut nonzeros = [0u64; 9];
     let mut change = [0.0f64; 9];
@@ -54,9 +62,9 @@ fn to_target(
             &mut w[..],
             &mut numbers[..],
             &mut indices[..],
-            rng,
+            tally,
         );
-        rng = after;
+        tally = after;
         stage += 1;
         left = count_nonzeros(&w[..]);
         nonzeros[stage] = left as u64;
@@ -64,6 +72,8 @@ fn to_target(
     }
     Path {
         stage,
+        directions: tally.directions,
+        sweeps: tally.sweeps,
         nonzeros,
         change,
     }
@@ -86,7 +96,11 @@ fn to_allowance(
         × (length (now next) ≡ length (now w)) × (ruleFault (Within allowance cap) ≡ 0) ⌝ }
     ensures { λ r. ⌜ Followed (columnsOf (now (matrix .entry)) n) n (now (w .entry)) source (Within allowance cap) r (now (w .exit)) ⌝ }
 {
-    let mut rng = source;
+    let mut tally = Counted {
+        directions: 0,
+        sweeps: 0,
+        rng: source,
+    };
     let mut stage = 0usize;
     let mut nonzeros = [0u64; 9];
     let mut change = [0.0f64; 9];
@@ -102,10 +116,12 @@ fn to_allowance(
             &mut next[..],
             &mut numbers[..],
             &mut indices[..],
-            rng,
+            tally,
             allowance,
             cap,
         );
+        let after = t.tally;
+        tally = after;
         if !t.taken {
             break;
         }
@@ -116,11 +132,11 @@ fn to_allowance(
         if !t.more {
             break;
         }
-        let after = t.rng;
-        rng = after;
     }
     Path {
         stage,
+        directions: tally.directions,
+        sweeps: tally.sweeps,
         nonzeros,
         change,
     }

@@ -14,6 +14,7 @@ use Rattle.halve.specs.Handed.{Ready, halvesOf}
 use Rattle.halving.specs.Halving.{passOf}
 use Rattle.rules.specs.Rules.{meets}
 use Rattle.trial.specs.Trial.{TriedOnce, changeAfter, aboveAfter}
+use Rattle.coloring.specs.declared.Counted.{Counted}
 use Rattle.rules.specs.declared.Cap.{Cap}
 use Rattle.trial.specs.declared.Tried.{Tried}
 use Rattle.draw.specs.declared.SplitMix64.{SplitMix64}
@@ -23,40 +24,40 @@ pub lent-of : {u : List Float} {n : ℕ} {w numbers : List Float} {indices : Lis
     → length start ≡ length w → Lent u (length start) n
 lent-of start r e = record { whole = rw e (r .whole); few = rw e (r .few); short = r .short }
 
-module _ (u : ℕ → ℕ → Float) (n : ℕ) (start : List Float) (a : Float) (cap : Cap) (w : List Float) (rng : SplitMix64) {next v : List Float} {draws : SplitMix64}
-    (copied : next ≡ w) (pass : halvesOf v draws ≡ passOf plusZero u n (halvesOf next rng)) where
-  same-pass : halvesOf v draws ≡ passOf plusZero u n (halvesOf w rng)
-  same-pass = pass ∙ ap (λ (x : List Float). passOf plusZero u n (halvesOf x rng)) copied
+module _ (u : ℕ → ℕ → Float) (n : ℕ) (start : List Float) (a : Float) (cap : Cap) (w : List Float) (tally : Counted) {next v : List Float} {after : Counted}
+    (copied : next ≡ w) (pass : halvesOf v after ≡ passOf plusZero u n (halvesOf next tally)) where
+  same-pass : halvesOf v after ≡ passOf plusZero u n (halvesOf w tally)
+  same-pass = pass ∙ ap (λ (x : List Float). passOf plusZero u n (halvesOf x tally)) copied
 
-  gives : v ≡ passOf plusZero u n (halvesOf w rng) .w
+  gives : v ≡ passOf plusZero u n (halvesOf w tally) .w
   gives = ap (λ (h : Halved). h .w) same-pass
 
-  runs-on : draws ≡ passOf plusZero u n (halvesOf w rng) .rng
-  runs-on = ap (λ (h : Halved). h .rng) same-pass
+  comes-to : halvesOf (passOf plusZero u n (halvesOf w tally) .w) after ≡ passOf plusZero u n (halvesOf w tally)
+  comes-to = ap (λ (x : List Float). halvesOf x after) (sym gives) ∙ same-pass
 
   module _ {x : Float} (measured : x ≡ maxChange u (length start) n start v) where
-    change-is : x ≡ changeAfter u n start w rng
+    change-is : x ≡ changeAfter u n start w tally
     change-is = measured ∙ ap (maxChange u (length start) n start) gives
 
-    after-is : aboveAfter u n start a w rng ≡ not (le x a)
+    after-is : aboveAfter u n start a w tally ≡ not (le x a)
     after-is = ap (λ (y : Float). not (le y a)) (sym change-is)
 
-    pub left-tried : (not (le x a) && meets cap (nonzeros w)) ≡ true → (r : Tried) → r .rng ≡ draws → r .change ≡ x → r .taken ≡ false
-        → r .more ≡ false → TriedOnce u n start a cap w rng r w
+    pub left-tried : (not (le x a) && meets cap (nonzeros w)) ≡ true → (r : Tried) → r .tally ≡ after → r .change ≡ x → r .taken ≡ false
+        → r .more ≡ false → TriedOnce u n start a cap w tally r w
     left-tried ends r s d t m =
         record {
-          draws = s ∙ runs-on;
+          pass = rw s comes-to;
           change = d ∙ change-is;
           taken = t ∙ sym (rw after-is (rw ends));
           weights = rw t;
           more = m ∙ sym (rw t);
         }
 
-    pub taken-tried : (not (le x a) && meets cap (nonzeros w)) ≡ false → (w' : List Float) → w' ≡ v → (r : Tried) → r .rng ≡ draws
-        → r .change ≡ x → r .taken ≡ true → r .more ≡ not (not (le x a) && meets cap (nonzeros w')) → TriedOnce u n start a cap w rng r w'
+    pub taken-tried : (not (le x a) && meets cap (nonzeros w)) ≡ false → (w' : List Float) → w' ≡ v → (r : Tried) → r .tally ≡ after
+        → r .change ≡ x → r .taken ≡ true → r .more ≡ not (not (le x a) && meets cap (nonzeros w')) → TriedOnce u n start a cap w tally r w'
     taken-tried goes w' e r s d t m =
         record {
-          draws = s ∙ runs-on;
+          pass = rw s comes-to;
           change = d ∙ change-is;
           taken = t ∙ sym (rw after-is (rw goes));
           weights = rw t (e ∙ gives);

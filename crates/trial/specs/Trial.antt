@@ -12,22 +12,24 @@ use Rattle.weights.specs.Weights.{nonzeros}
 use Rattle.halve.specs.Handed.{halvesOf}
 use Rattle.halving.specs.Halving.{passOf}
 use Rattle.rules.specs.Rules.{meets}
+use Rattle.coloring.specs.declared.Counted.{Counted}
 use Rattle.rules.specs.declared.Cap.{Cap}
 use Rattle.trial.specs.declared.Tried.{Tried}
 use Rattle.draw.specs.declared.SplitMix64.{SplitMix64}
 
 -- how far the pass from w has moved the margins, and whether that is above the allowance
-abbrev pub changeAfter : (ℕ → ℕ → Float) → ℕ → List Float → List Float → SplitMix64 → Float
-changeAfter u n start w rng = maxChange u (length start) n start (passOf plusZero u n (halvesOf w rng) .w)
+abbrev pub changeAfter : (ℕ → ℕ → Float) → ℕ → List Float → List Float → Counted → Float
+changeAfter u n start w tally = maxChange u (length start) n start (passOf plusZero u n (halvesOf w tally) .w)
 
-abbrev pub aboveAfter : (ℕ → ℕ → Float) → ℕ → List Float → Float → List Float → SplitMix64 → Bool
-aboveAfter u n start allowance w rng = not (le (changeAfter u n start w rng) allowance)
+abbrev pub aboveAfter : (ℕ → ℕ → Float) → ℕ → List Float → Float → List Float → Counted → Bool
+aboveAfter u n start allowance w tally = not (le (changeAfter u n start w tally) allowance)
 
--- one more pass was tried from the weights w: what it measured, whether it was taken, and whether another is to be tried
+-- one more pass was tried from the weights w: where it came to, what it measured, whether it was taken, and whether another is to be
+-- tried
 pub record TriedOnce (u : ℕ → ℕ → Float) (n : ℕ) (start : List Float) (allowance : Float) (cap : Cap)
-    (w : List Float) (rng : SplitMix64) (r : Tried) (w' : List Float) : Type 0 where
-  pub draws : r .rng ≡ passOf plusZero u n (halvesOf w rng) .rng
-  pub change : r .change ≡ changeAfter u n start w rng
-  pub taken : r .taken ≡ not (aboveAfter u n start allowance w rng && meets cap (nonzeros w))
-  pub weights : w' ≡ pick (r .taken) (passOf plusZero u n (halvesOf w rng) .w) w
-  pub more : r .more ≡ (r .taken && not (aboveAfter u n start allowance w rng && meets cap (nonzeros w')))
+    (w : List Float) (tally : Counted) (r : Tried) (w' : List Float) : Type 0 where
+  pub pass : halvesOf (passOf plusZero u n (halvesOf w tally) .w) (r .tally) ≡ passOf plusZero u n (halvesOf w tally)
+  pub change : r .change ≡ changeAfter u n start w tally
+  pub taken : r .taken ≡ not (aboveAfter u n start allowance w tally && meets cap (nonzeros w))
+  pub weights : w' ≡ pick (r .taken) (passOf plusZero u n (halvesOf w tally) .w) w
+  pub more : r .more ≡ (r .taken && not (aboveAfter u n start allowance w tally && meets cap (nonzeros w')))

@@ -1,5 +1,5 @@
 // One more pass, tried: its weights are taken unless they measure above the allowance and the cap is met already.
-use draw::SplitMix64;
+use coloring::Counted;
 use halving::halving_pass;
 use margins::change_of;
 use rules::Cap;
@@ -12,7 +12,7 @@ ghost use mathlib.Core.Bool.{_&&_};
 ghost use lib.ListN.{length};
 ghost use Rattle.limits.specs.Matrix.{columnsOf};
 ghost use Rattle.weights.specs.Weights.{nonzeros};
-ghost use Rattle.halve.specs.Handed.{Ready};
+ghost use Rattle.halve.specs.Handed.{Ready, Countable};
 ghost use Rattle.rules.specs.Rules.{meets};
 ghost use Rattle.trial.specs.Trial.{TriedOnce};
 
@@ -27,9 +27,10 @@ fn ends_there(above: bool, cap: Cap, w: &[f64]) -> bool
     }
 }
 
-// How a try of one more pass ended: what it measured, whether its weights were taken, and whether another is to be tried.
+// How a try of one more pass ended: the tally with it, what it measured, whether its weights were taken, and whether another is to be
+// tried.
 pub struct Tried {
-    pub rng: SplitMix64,
+    pub tally: Counted,
     pub change: f64,
     pub taken: bool,
     pub more: bool,
@@ -44,22 +45,22 @@ pub fn try_pass(
     next: &mut [f64],
     numbers: &mut [f64],
     indices: &mut [u32],
-    rng: SplitMix64,
+    tally: Counted,
     allowance: f64,
     cap: Cap,
 ) -> Tried
     requires { ⌜ Ready (now matrix) n (now w) (now numbers) (now indices) × (length (now start) ≡ length (now w))
-        × (length (now next) ≡ length (now w)) × (2 ≤ nonzeros (now w)) ⌝ }
+        × (length (now next) ≡ length (now w)) × (2 ≤ nonzeros (now w)) × Countable tally 2 ⌝ }
     ensures { λ r. ⌜ TriedOnce (columnsOf (now (matrix .entry)) n) n (now (start .entry)) allowance cap
-        (now (w .entry)) rng r (now (w .exit)) ⌝ }
+        (now (w .entry)) tally r (now (w .exit)) ⌝ }
 {
     copy(&mut next[..], &w[..]);
-    let after = halving_pass(matrix, n, &mut next[..], numbers, indices, rng);
+    let after = halving_pass(matrix, n, &mut next[..], numbers, indices, tally);
     let change = change_of(matrix, n, start, &next[..]);
     let above = !(change <= allowance);
     if ends_there(above, cap, &w[..]) {
         return Tried {
-            rng: after,
+            tally: after,
             change,
             taken: false,
             more: false,
@@ -68,7 +69,7 @@ pub fn try_pass(
     copy(&mut w[..], &next[..]);
     let ends = ends_there(above, cap, &w[..]);
     Tried {
-        rng: after,
+        tally: after,
         change,
         taken: true,
         more: !ends,

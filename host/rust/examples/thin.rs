@@ -8,6 +8,7 @@ fn main() -> Result<(), Refusal> {
     let job = Job { seed: 0, edition: Edition::First, rule: Rule::Within { allowance: 0.5, cap: None } };
     let thinned = thin(&columns, &weights, job)?;
     println!("stage {}, {} left, no margin moved by more than {}", thinned.stage, thinned.nonzeros, thinned.change);
+    println!("directions drawn: {}, sweeps made: {}", thinned.directions, thinned.sweeps);
     for (j, w) in thinned.weights.iter().enumerate() {
         println!("weight {j}: {w}");
     }

@@ -11,6 +11,8 @@ pub struct Answer {
     pub stage: u64,
     pub nonzeros: u64,
     pub change: f64,
+    pub directions: u64,
+    pub sweeps: u64,
     pub path_nonzeros: [u64; 9],
     pub path_change: [f64; 9],
 }

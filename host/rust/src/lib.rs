@@ -19,6 +19,8 @@
 //! let thinned = thin(&columns, &weights, job)?;
 //! assert_eq!(thinned.weights, [0.0, 1.0]);
 //! assert_eq!((thinned.stage, thinned.nonzeros, thinned.change), (1, 1, 0.5));
+//! // Its path, and how many directions it drew.
+//! assert_eq!((thinned.path, thinned.directions), (vec![(2, 0.0), (1, 0.5)], 1));
 //!
 //! // The change is measured from the weights divided by the sum of their magnitudes.
 //! assert_eq!(max_margin_change(&columns, &[0.25, 0.75], &thinned.weights)?, 0.5);
@@ -37,8 +39,8 @@
 //! [`sparsify`], [`sparsify_within`], [`max_margin_change`] and [`discrepancy_coloring`] have the names, arguments and, given the same
 //! draws, the values of the module `sparsification` of miniboosts; where that panics they give a [`Refusal`]. Their values stay plain
 //! weights, not records, so that code written for that module goes on working behind a `?`. [`thin`] gives the whole answer: weights,
-//! stage, nonzeros and change. Where the panics are wanted too, the module [`sparsification`] has the very signatures, and a host changes
-//! its `use` line alone.
+//! stage, nonzeros, change, how much was drawn and swept, and the path. Where the panics are wanted too, the module [`sparsification`] has
+//! the very signatures, and a host changes its `use` line alone.
 //!
 //! The draws are not the same: that module takes the platform's logarithm and cosine, this library one rule for every machine. Beside
 //! that module as it ships, of thinnings to 4 weights with entries 1 and -1, 34 of 20,000 with 32 columns and 64 rows came out otherwise

@@ -45,6 +45,11 @@ pub struct Thinned {
     pub nonzeros: usize,
     /// The largest change of a row's margin from the normalised weights to those returned.
     pub change: f64,
+    /// How many directions all passes drew, a pass that was tried and discarded among them: at most eight for each column, each of at most
+    /// as many Gaussians as there are columns.
+    pub directions: usize,
+    /// How many sweeps all passes made, that pass among them too: at most 1600.
+    pub sweeps: usize,
     /// Nonzeros and change of each stage, from 0 to the one returned. The nonzeros fall strictly, each to at most half, so that there are
     /// at most nine stages; the last is `(nonzeros, change)`.
     pub path: Vec<(usize, f64)>,
@@ -103,7 +108,15 @@ pub fn thin(columns: &[Vec<f64>], weights: &[f64], job: Job) -> Result<Thinned, 
     Refusal::check(answer.number)?;
     let stage = answer.stage as usize;
     let path = answer.path_nonzeros.iter().zip(answer.path_change).take(stage + 1).map(|(left, change)| (*left as usize, change)).collect();
-    Ok(Thinned { weights: output, stage, nonzeros: answer.nonzeros as usize, change: answer.change, path })
+    Ok(Thinned {
+        weights: output,
+        stage,
+        nonzeros: answer.nonzeros as usize,
+        change: answer.change,
+        directions: answer.directions as usize,
+        sweeps: answer.sweeps as usize,
+        path,
+    })
 }
 
 /// Thins weights to at most `target` nonzeros. The weights are divided by the sum of their magnitudes first; signs are kept, and a

@@ -13,6 +13,8 @@ struct Answer {
     stage: u64,
     nonzeros: u64,
     change: f64,
+    directions: u64,
+    sweeps: u64,
     path_nonzeros: [u64; 9],
     path_change: [f64; 9],
 }
@@ -68,7 +70,8 @@ fn directly(columns: &[Vec<f64>], weights: &[f64], job: Job) -> Thinned {
     let stage = a.stage as usize;
     let path = (0..=stage).map(|k| (a.path_nonzeros[k] as usize, a.path_change[k])).collect();
     assert!((stage + 1..9).all(|k| a.path_nonzeros[k] == 0 && a.path_change[k].to_bits() == 0));
-    Thinned { weights: output, stage, nonzeros: a.nonzeros as usize, change: a.change, path }
+    let (nonzeros, directions, sweeps) = (a.nonzeros as usize, a.directions as usize, a.sweeps as usize);
+    Thinned { weights: output, stage, nonzeros, change: a.change, directions, sweeps, path }
 }
 
 /// A small generator for the tests' own choices.
@@ -110,6 +113,7 @@ fn jobs_equal_direct_calls() {
             let (ours, theirs) = (thin(&columns, &weights, job).unwrap(), directly(&columns, &weights, job));
             assert_eq!(bits(&ours.weights), bits(&theirs.weights), "{job:?}");
             assert_eq!((ours.stage, ours.nonzeros, ours.change.to_bits()), (theirs.stage, theirs.nonzeros, theirs.change.to_bits()));
+            assert_eq!((ours.directions, ours.sweeps, ours.path), (theirs.directions, theirs.sweeps, theirs.path));
         }
     }
 }

@@ -14,11 +14,12 @@ fn weights(m: usize) -> Vec<f64> {
 }
 
 /// A thinned ensemble of so many weights, of which these are left. Of the path only the ends are known.
-fn hold(thinned: Thinned, m: usize, stage: usize, nonzeros: usize, change: u64, left: &[(usize, u64)]) {
+fn hold(thinned: Thinned, m: usize, stage: usize, nonzeros: usize, change: u64, counts: (usize, usize), left: &[(usize, u64)]) {
     let mut weights = vec![0.0; m];
     left.iter().for_each(|(place, bits)| weights[*place] = f64::from_bits(*bits));
     let change = f64::from_bits(change);
     assert_eq!((thinned.weights, thinned.stage, thinned.nonzeros, thinned.change), (weights, stage, nonzeros, change));
+    assert_eq!((thinned.directions, thinned.sweeps), counts);
     assert_eq!((thinned.path.len(), thinned.path[0], thinned.path[stage]), (stage + 1, (m, 0.0), (nonzeros, change)));
     assert!(thinned.path.windows(2).all(|two| two[1].0 <= two[0].0 / 2));
 }
@@ -30,7 +31,7 @@ fn target() {
     let (columns, weights) = (columns(24, 5), weights(24));
     let thinned = thin(&columns, &weights, Job { seed: 3, edition: Edition::First, rule: Rule::Target(7) }).unwrap();
     assert_eq!(sparsify(&columns, &weights, 7, 3).as_ref(), Ok(&thinned.weights));
-    hold(thinned, 24, 2, 5, 0x3FDC6EF752A04B3C, &left);
+    hold(thinned, 24, 2, 5, 0x3FDC6EF752A04B3C, (36, 7), &left);
 }
 
 /// From a seed on which the two editions leave other weights.
@@ -41,7 +42,7 @@ fn target_by_edition_2() {
     let (columns, weights, seed, rule) = (columns(24, 5), weights(24), 0xACFA9D4D29BC9012, Rule::Target(7));
     let thinned = thin(&columns, &weights, Job { seed, edition: Edition::Second, rule }).unwrap();
     assert_ne!(sparsify(&columns, &weights, 7, seed).as_ref(), Ok(&thinned.weights));
-    hold(thinned, 24, 2, 5, 0x3FD10EDEAD3F798D, &left);
+    hold(thinned, 24, 2, 5, 0x3FD10EDEAD3F798D, (35, 8), &left);
 }
 
 #[test]
@@ -60,7 +61,7 @@ fn within_by_edition_2() {
         (columns(40, 7), weights(40), 0x7F2BA34D7BA521E7, Rule::Within { allowance: 0.03125, cap: Some(12) });
     let thinned = thin(&columns, &weights, Job { seed, edition: Edition::Second, rule }).unwrap();
     assert_ne!(sparsify_within(&columns, &weights, 0.03125, Some(12), seed).as_ref(), Ok(&thinned.weights));
-    hold(thinned, 40, 2, 8, 0x3FD20EFBF9223017, &left);
+    hold(thinned, 40, 2, 8, 0x3FD20EFBF9223017, (58, 8), &left);
 }
 
 #[test]
@@ -80,7 +81,7 @@ fn within() {
         thin(&columns, &weights, Job { seed: 4, edition: Edition::First, rule: Rule::Within { allowance: 0.03125, cap: Some(12) } })
             .unwrap();
     assert_eq!(sparsify_within(&columns, &weights, 0.03125, Some(12), 4).as_ref(), Ok(&thinned.weights));
-    hold(thinned, 40, 2, 8, 0x3FD171B8E4FA2B41, &left);
+    hold(thinned, 40, 2, 8, 0x3FD171B8E4FA2B41, (56, 11), &left);
 }
 
 #[test]

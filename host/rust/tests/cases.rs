@@ -2,7 +2,8 @@
 
 use knobthistle::{discrepancy_coloring, max_margin_change, sparsify, sparsify_within, thin, Edition, Job, Refusal, Rule, Thinned};
 
-const SEEDS: [u64; 5] = [0, 1, 0x61C8_8646_80B5_83EB, 1 << 63, u64::MAX];
+/// The last one's first output is all ones: the first Gaussian is a zero, and a direction of it alone is broken off.
+const SEEDS: [u64; 6] = [0, 1, 0x61C8_8646_80B5_83EB, 1 << 63, u64::MAX, 0x3162_8AF6_7B21_31AB];
 
 /// Jobs by a rule, with each of the seeds and both editions of the draw.
 fn jobs(rule: Rule) -> impl Iterator<Item = Job> {
@@ -30,7 +31,8 @@ fn on_every_seed(weights: [f64; 2], rule: Rule) -> Result<Thinned, Refusal> {
 fn answer(weights: [f64; 2], stage: usize, nonzeros: usize, change: f64) -> Result<Thinned, Refusal> {
     // Both weights are there at stage 0 where there is a stage 1.
     let path = if stage == 0 { vec![(nonzeros, change)] } else { vec![(2, 0.0), (nonzeros, change)] };
-    Ok(Thinned { weights: weights.to_vec(), stage, nonzeros, change, path })
+    // One pass is made, that of C2 to be discarded: it colours one column, with one direction and one sweep.
+    Ok(Thinned { weights: weights.to_vec(), stage, nonzeros, change, directions: 1, sweeps: 1, path })
 }
 
 /// Many columns of 1 and -1, in a fixed pattern.
@@ -69,6 +71,7 @@ fn c5_a_negative_weight() {
 fn c6_an_underflow() {
     let thinned = on_every_seed([4.0, 5e-324], Rule::Target(1)).unwrap();
     assert_eq!((thinned.weights, thinned.stage, thinned.nonzeros, thinned.change), (vec![1.0, 0.0], 0, 1, 0.0));
+    assert_eq!((thinned.directions, thinned.sweeps), (0, 0));
 }
 
 #[test]

@@ -9,6 +9,11 @@ pub mod splitmix;
 
 use splitmix::{state_before, GAMMA};
 
+/// A seed whose Gaussian of this number, from 0, is a zero, so that a direction with nothing beside it is broken off.
+pub fn zero_at(gaussian: u64) -> u64 {
+    ZERO_FIRST.wrapping_sub((2 * gaussian).wrapping_mul(GAMMA))
+}
+
 pub struct Chance(u64);
 
 impl Chance {

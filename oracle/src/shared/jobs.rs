@@ -4,6 +4,7 @@ use crate::draws;
 use crate::lent::scratch_sizes;
 use crate::original::{self, reach};
 use crate::tally::same;
+use crate::watch;
 
 #[derive(Clone, Copy, Debug)]
 pub enum Rule {
@@ -31,6 +32,10 @@ pub struct Said {
     pub weights: Vec<f64>,
     /// The original's own call gave these weights too.
     pub agrees: bool,
+    /// What that call drew and swept, and how many of its directions were broken off.
+    pub directions: u64,
+    pub sweeps: u64,
+    pub broken_off: u64,
 }
 
 /// The stages of an ensemble by the original's pass, and where document 01 reads them.
@@ -58,12 +63,24 @@ pub fn by_stages(columns: &[Vec<f64>], e: &Ensemble, rule: Rule) -> Said {
             }
         };
         if stop {
+            let before = watch::seen();
             let own = match rule {
                 Rule::Target(target) => original::sparsify(columns, &e.weights, target, e.seed),
                 Rule::Within(allowance, cap) => original::sparsify_within(columns, &e.weights, allowance, cap, e.seed),
             };
             let agrees = own.iter().zip(&weights).all(|(a, b)| same(*a, *b));
-            return Said { stage, nonzeros: nonzeros as u64, change: measure(&weights), path, weights, agrees };
+            let after = watch::seen();
+            return Said {
+                stage,
+                nonzeros: nonzeros as u64,
+                change: measure(&weights),
+                path,
+                weights,
+                agrees,
+                directions: after.directions - before.directions,
+                sweeps: after.sweeps - before.sweeps,
+                broken_off: after.broken_off - before.broken_off,
+            };
         }
         weights = match next {
             Some(next) => next,

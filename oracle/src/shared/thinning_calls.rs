@@ -9,6 +9,8 @@ pub struct Answer {
     pub stage: u64,
     pub nonzeros: u64,
     pub change: f64,
+    pub directions: u64,
+    pub sweeps: u64,
     pub path_nonzeros: [u64; 9],
     pub path_change: [f64; 9],
 }
@@ -22,7 +24,8 @@ impl Answer {
 
     /// Noise, so that a field that is not written shows.
     pub fn noise() -> Answer {
-        Answer { number: 77, stage: 77, nonzeros: 77, change: 77.0, path_nonzeros: [77; 9], path_change: [77.0; 9] }
+        let (path_nonzeros, path_change) = ([77; 9], [77.0; 9]);
+        Answer { number: 77, stage: 77, nonzeros: 77, change: 77.0, directions: 77, sweeps: 77, path_nonzeros, path_change }
     }
 }
 

@@ -8,8 +8,9 @@ use std::cell::Cell;
 pub struct Seen {
     pub froze_nothing: bool,
     pub nan: bool,
-    /// How many directions were drawn, and the largest entry of one.
+    /// How many directions were drawn, how many of them were broken off, and the largest entry of one.
     pub directions: u64,
+    pub broken_off: u64,
     pub largest: f64,
     /// How many sweeps local search made.
     pub sweeps: u64,
@@ -73,6 +74,12 @@ pub fn directed(g: &[f64]) {
     let largest = g.iter().fold(seen.largest, |most, x| most.max(x.abs()));
     SEEN.set(Seen { directions: seen.directions + 1, largest, ..seen });
     numbers(g);
+}
+
+/// Too little was left of a direction.
+pub fn broken_off() {
+    let seen = SEEN.get();
+    SEEN.set(Seen { broken_off: seen.broken_off + 1, ..seen });
 }
 
 /// Local search sweeps.

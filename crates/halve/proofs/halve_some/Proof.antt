@@ -2,7 +2,7 @@
 use borrow.Author.Needs.{needs}
 use mathlib.Core.Path.{_∙_}
 use native.Mathlib.Omega.{arith}
-use Rattle.halve.proofs.Columns.{column-inside, halved-by}
+use Rattle.halve.proofs.Columns.{column-inside, halved-by, directions-fit, sweeps-fit}
 use Rattle.halve.proofs.FiniteEntries.{finite-entry}
 use Rattle.halve.proofs.halve_some.Statement.{statement}
 use Rattle.halve.proofs.halve_some.Tie as tie
@@ -13,9 +13,9 @@ scales-into-requires c κs = search needs
 coloring-requires : tie.Need-coloring-requires
 coloring-requires c κs =
     let at-slice-known6 = c .before .before .before .before in
-    let at-shared-slice-known = at-slice-known6 .before .before .before .before .before .before .before .before .before .before .before in
+    let at-shared-slice-known = at-slice-known6 .before .before .before .before .before .before .before .before .before .before .before .before in
     let a = at-shared-slice-known .before .args in
-    let v = at-shared-slice-known .before .pre in
+    let v = at-shared-slice-known .before .pre .0 in
     let inside = column-inside (a .matrix .now) (a .n) (a .w .now) (a .omega) (a .some .now) (v .whole) (v .inside .below) in (
       record {
         low = omega arith;
@@ -39,14 +39,34 @@ double-or-zero-requires : tie.Need-double-or-zero-requires
 double-or-zero-requires c κs =
     let at-coloring = c .before .before .before .before .before .before .before .before .before .before in
     let at-start = at-coloring .before .before .before .before .before .before .before .before .before .before .before .before
-    .before .before .before .before .before in
-    (at-coloring .coloring .kept .1 .1 .1 .1 .0 ∙ at-start .pre .colours, at-start .pre .inside)
+    .before .before .before .before .before .before in
+    (at-coloring .coloring .kept .1 .1 .1 .1 .0 ∙ at-start .pre .0 .colours, at-start .pre .0 .inside)
+
+add-directions : tie.Need-add-directions
+add-directions c =
+    let at-coloring = c .before .before .before .before .before .before .before .before .before .before .before .before .before .before .before in
+    let at-start = at-coloring .before .before .before .before .before .before .before .before .before .before .before .before
+    .before .before .before .before .before .before in
+    let fit = directions-fit _ _ _ _ _ (at-start .pre .1) (at-start .pre .0 .few) (at-coloring .coloring .ensures) in
+    omega (arith, fit)
+
+add-sweeps : tie.Need-add-sweeps
+add-sweeps c =
+    let at-coloring = c .before .before .before .before .before .before .before .before
+    .before .before .before .before .before .before .before .before .before in
+    let at-start = at-coloring .before .before .before .before .before .before .before .before .before .before .before .before
+    .before .before .before .before .before .before in
+    let fit = sweeps-fit _ _ _ _ _ (at-start .pre .1) (at-start .pre .0 .few) (at-coloring .coloring .ensures) in
+    omega (arith, fit)
 
 same-length : tie.Need-same-length
 same-length c = search needs
 
 same-length-2 : tie.Need-same-length-2
-same-length-2 c = search needs
+same-length-2 c =
+    let at-scales-into = c .before .before .before .before .before .before .before .before .before .before .before .before .before .before
+    .before .before .before .before .before .before .before .before .before .before .before in
+    search (needs, at-scales-into .scales-into .kept)
 
 same-length-3 : tie.Need-same-length-3
 same-length-3 c = search needs
@@ -59,17 +79,16 @@ same-length-5 c = search needs
 
 returns : tie.Need-returns
 returns c =
-    let at-double-or-zero = c .before .before .before in
+    let at-double-or-zero = c .before .before .before .before .before .before .before in
     let at-sigma-of = at-double-or-zero .before .before .before in
     let at-coloring = at-sigma-of .before .before .before .before .before .before .before .before in
     let at-scales-into = at-coloring .before .before .before .before .before .before .before in
-    let at-start = at-scales-into .before .before .before .before .before .before .before .before .before .before in
+    let at-start = at-scales-into .before .before .before .before .before .before .before .before .before .before .before in
     let a = at-start .args in
-    let v = at-start .pre in
-    let d = at-coloring .coloring in
-    halved-by (a .matrix .now) (a .n) (a .w .now) (a .omega) (a .some .now) (v .whole) (v .inside .below) (a .rng) _ _ _ _
-    _ _ (at-scales-into .scales-into .ensures) (v .rows) (d .ensures .colours) (d .ensures .draws)
-    (at-sigma-of .sigma-of .ensures) (at-double-or-zero .double-or-zero .ensures)
+    let v = at-start .pre .0 in
+    halved-by (a .matrix .now) (a .n) (a .w .now) (a .omega) (a .some .now) (v .whole) (v .inside .below) (a .tally .rng) _ _ _ _
+    _ (at-coloring .coloring .result) (a .tally .directions) (a .tally .sweeps) (at-scales-into .scales-into .ensures) (v .rows)
+    (at-coloring .coloring .ensures) (at-sigma-of .sigma-of .ensures) (at-double-or-zero .double-or-zero .ensures)
 
 pub halve-some-spec : {M : Type 1} → statement M
 halve-some-spec =
@@ -79,6 +98,8 @@ halve-some-spec =
     coloring-requires
     sigma-of-requires
     double-or-zero-requires
+    add-directions
+    add-sweeps
     same-length
     same-length-2
     same-length-3

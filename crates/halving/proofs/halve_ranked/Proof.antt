@@ -40,7 +40,7 @@ halve-twice-requires c κs =
     let v = c .before .before .before .before .before .before .before .before .before .before .before .before .before .before .before .before .before .pre in
     let e = c .before .before .before .before .before .before .before .before .rank-into .ensures in
     let k = c .before .before .before .before .before .kept-count .ensures in
-    (v .0, rest-lent w _ _ e k, rest-lent-some w _ _ e k (v .1))
+    (v .0, rest-lent w _ _ e k, rest-lent-some w _ _ e k (v .1), v .4)
 
 same-length : tie.Need-same-length
 same-length c = search needs

@@ -3,6 +3,7 @@ use borrow.Author.Needs.{needs}
 use native.Mathlib.Omega.{arith}
 use Rattle.limits.specs.Matrix.{columnsOf}
 use Rattle.halve.proofs.Calls.{ready-still}
+use Rattle.halve.proofs.Adding.{one-countable, countable-once}
 use Rattle.halving.proofs.Calls.{rest-below, rest-short, pass-holds}
 use Rattle.halving.proofs.halve_twice.Statement.{statement}
 use Rattle.halving.proofs.halve_twice.Tie as tie
@@ -28,7 +29,7 @@ halve-requires : tie.Need-halve-requires
 halve-requires c κs =
     let a = c .before .before .before .before .before .before .before .before .before .before .before .args in
     let v = c .before .before .before .before .before .before .before .before .before .before .before .pre in
-    (v .0, rest-below (a .w .now) (a .rest .now) (v .1), rest-short (a .w .now) (a .rest .now) (v .1))
+    (v .0, rest-below (a .w .now) (a .rest .now) (v .1), rest-short (a .w .now) (a .rest .now) (v .1), one-countable (v .3))
 
 halve-requires-2 : tie.Need-halve-requires-2
 halve-requires-2 c κs =
@@ -36,11 +37,14 @@ halve-requires-2 c κs =
     .before .before .before .before .before .before .before .args in
     let v = c .before .before .before .before .before .before .before .before .before .before .before .before .before .before
     .before .before .before .before .before .before .before .pre in
-    let k = c .before .before .before .before .before .before .before .before .before .halve .kept in
-    let long = k .1 .1 .0 in (
+    let at-halve = c .before .before .before .before .before .before .before .before .before in
+    let k = at-halve .halve .kept in
+    let long = k .1 .1 .0 in
+    let short = rest-short (a .w .now) (a .rest .now) (v .1) in (
       ready-still (v .0) long (k .1 .1 .1 .1 .1 .0) (k .1 .1 .1 .1 .1 .1 .0),
       rw long (rest-below (a .w .now) (a .rest .now) (v .1)),
-      rw long (rest-short (a .w .now) (a .rest .now) (v .1)),
+      rw long short,
+      countable-once _ _ _ _ _ _ _ (v .3) (omega (arith, short, v .0 .few)) (at-halve .halve .ensures),
     )
 
 normalize-requires : tie.Need-normalize-requires
@@ -63,7 +67,7 @@ returns c =
     let at-abs = at-halve .before .before .before .before in
     let at-start = at-abs .before .before .before .before .before .before .before .before in
     let a = at-start .args in
-    pass-holds (columnsOf (a .matrix .now) (a .n)) (a .n) (a .w .now) _ _ _ (a .rest .now) (at-abs .abs .result) (a .rng) _ _
+    pass-holds (columnsOf (a .matrix .now) (a .n)) (a .n) (a .w .now) _ _ _ (a .rest .now) (at-abs .abs .result) (a .tally) _ _
     (at-start .pre .1) (at-abs .abs .ensures) (at-halve .halve .ensures) (at-halve2 .halve2 .ensures) (at-normalize .normalize .ensures)
 
 pub halve-twice-spec : {M : Type 1} → statement M

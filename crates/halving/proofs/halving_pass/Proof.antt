@@ -29,7 +29,7 @@ halve-ranked-requires c κs =
     let at-support-into = c .before .before .before .before .before .before in
     let at-start = at-support-into .before .before .before .before .before .before .before in
     let p = at-support-into .support-into .ensures in
-    (at-start .pre .0, at-start .pre .1, p .front, length-take-le _ _ (omega arith) ∙ sym (length-take-le _ _ (p .within)))
+    (at-start .pre .0, at-start .pre .1, p .front, length-take-le _ _ (omega arith) ∙ sym (length-take-le _ _ (p .within)), at-start .pre .2)
 
 same-length : tie.Need-same-length
 same-length c = search needs

@@ -20,20 +20,21 @@ use Rattle.trial.proofs.Trying.{lent-of}
 use Rattle.rules.specs.declared.Rule.the-variants.{Within}
 use Rattle.stages.proofs.Halting.{Falls}
 use Rattle.stages.proofs.Passing.{normal-bounded, falling}
-use Rattle.stages.proofs.Following.{OnPath, Written, closes, on-start, opens, eight, note, note-first, noted}
+use Rattle.stages.proofs.Following.{OnPath, Written, closes, on-start, on-tallied, tried-tallied, opens, eight, note, note-first, noted}
 use Rattle.stages.proofs.Following.{allowance-met, allowance-left, allowance-on, allowance-fewer, allowance-goes, allowance-last, measured}
+use Rattle.stages.proofs.Totals.{countable-at}
 use Rattle.stages.proofs.to_allowance.Statement.{statement}
 use Rattle.stages.proofs.to_allowance.Tie as tie
 
 abbrev Inv-loop : tie.InvT-loop
-Inv-loop matrix n start w₀ next₀ numbers₀ indices₀ allowance cap source stage₀ counts₀ change₀ left₀ w next numbers indices rng stage counts change left =
-    OnPath (columnsOf matrix n) n start source (Within allowance cap) stage w rng × Falls plusZero (columnsOf matrix n) n start source
-    × Written (columnsOf matrix n) n start source stage counts change × (left ≡ nonzeros w)
-    × (closes (columnsOf matrix n) n start source allowance cap stage ≡ false)
+Inv-loop matrix n start w₀ next₀ numbers₀ indices₀ allowance cap tally₀ stage₀ counts₀ change₀ left₀ w next numbers indices tally stage counts change left =
+    OnPath (columnsOf matrix n) n start (tally₀ .rng) (Within allowance cap) stage w tally × Falls plusZero (columnsOf matrix n) n start (tally₀ .rng)
+    × Written (columnsOf matrix n) n start (tally₀ .rng) stage counts change × (left ≡ nonzeros w)
+    × (closes (columnsOf matrix n) n start (tally₀ .rng) allowance cap stage ≡ false)
     × (length next ≡ length next₀) × (length numbers ≡ length numbers₀) × (length indices ≡ length indices₀)
 
 abbrev μ-loop : tie.MeasureT-loop
-μ-loop matrix n start w₀ next₀ numbers₀ indices₀ allowance cap source stage₀ counts₀ change₀ left₀ w next numbers indices rng stage counts change left =
+μ-loop matrix n start w₀ next₀ numbers₀ indices₀ allowance cap tally₀ stage₀ counts₀ change₀ left₀ w next numbers indices tally stage counts change left =
     nonzeros w
 
 count-nonzeros-requires : tie.Need-count-nonzeros-requires Inv-loop μ-loop
@@ -68,11 +69,11 @@ loop-holds c =
     let few = at-start .pre .0 .few in
     let small : bounded one (a .start .now) ≡ true = rw same at (at-start .pre .1) in
     let on = on-start (columnsOf (a .matrix .now) (a .n)) (a .n) (a .start .now) (a .source) (omega (arith, few, ap length same))
-    (Within (a .allowance) (a .cap)) in (
+    (Within (a .allowance) (a .cap)) (record { directions = 0; sweeps = 0; rng = a .source }) refl refl refl in (
       rw same on,
       falling (columnsOf (a .matrix .now) (a .n)) (a .n) (a .start .now) (a .source)
           (normal-bounded (a .start .now) (λ j l. at-known .shared-slice-known2 .given j) small) (omega (arith, few, ap length same)),
-      note-first (columnsOf (a .matrix .now) (a .n)) (a .n) (a .start .now) (a .source) (omega (arith, few, ap length same))
+      note-first (columnsOf (a .matrix .now) (a .n)) (a .n) (a .start .now) (a .source) on
           (at-count .count-nonzeros .ensures ∙ ap nonzeros same)
           (c .change-of .ensures ∙ ap (maxChange (columnsOf (a .matrix .now) (a .n)) (length (a .start .now)) (a .n) (a .start .now)) same),
       at-count .count-nonzeros .ensures,
@@ -87,6 +88,7 @@ try-pass-requires c κs =
     let at-test = c .before .before .before .before in
     let at-loop = at-test .before in
     let at-start = at-loop .before .before .before .before .before .before .before .before .before .before .before in
+    let a = at-start .args in
     let inv = at-loop .loop .inv in
     let same = ap length (at-start .pre .2) in
     let long = inv .0 .long in (
@@ -94,11 +96,13 @@ try-pass-requires c κs =
       sym long,
       inv .5 ∙ at-start .pre .3 ∙ same ∙ sym long,
       omega (arith, inv .3, at-test .loop-test .taken),
+      countable-at (omega (arith, at-start .pre .0 .few, same)) (inv .0 .near)
+          (on-tallied (columnsOf (a .matrix .now) (a .n)) (a .n) (a .start .now) (a .source) (inv .0)),
     )
 
 add-stage : tie.Need-add-stage Inv-loop μ-loop
 add-stage c =
-    let at-loop = c .before .before .before .before .before .before .before .before .before .before .before .before .before .before .before .before in
+    let at-loop = c .before .before .before .before .before .before .before .before .before .before .before .before .before .before .before .before .before in
     omega (arith, at-loop .loop .inv .0 .near)
 
 count-nonzeros-requires-2 : tie.Need-count-nonzeros-requires-2 Inv-loop μ-loop
@@ -106,34 +110,36 @@ count-nonzeros-requires-2 c κs = search needs
 
 mul-nonzeros-2 : tie.Need-mul-nonzeros-2 Inv-loop μ-loop
 mul-nonzeros-2 c =
-    let at-loop = c .before .before .before .before .before .before .before .before .before .before .before .before .before
-    .before .before .before .before .before in
+    let at-loop = c .before .before .before .before .before .before .before .before .before
+    .before .before .before .before .before .before .before .before .before .before in
     omega (arith, at-loop .loop .inv .0 .near)
 
 array-write-nonzeros-2 : tie.Need-array-write-nonzeros-2 Inv-loop μ-loop
 array-write-nonzeros-2 c =
-    let at-test = c .before .before .before .before .before .before .before .before .before .before .before .before .before .before .before .before .before in
+    let at-test = c .before .before .before .before .before .before .before .before .before
+    .before .before .before .before .before .before .before .before .before in
     let at-loop = at-test .before in
     let inv = at-loop .loop .inv in
     omega (arith, eight _ _ (inv .0 .room) (omega (arith, inv .3, at-test .loop-test .taken)))
 
 mul-change-2 : tie.Need-mul-change-2 Inv-loop μ-loop
 mul-change-2 c =
-    let at-loop = c .before .before .before .before .before .before .before .before .before .before .before .before .before
-    .before .before .before .before .before in
+    let at-loop = c .before .before .before .before .before .before .before .before .before
+    .before .before .before .before .before .before .before .before .before .before in
     omega (arith, at-loop .loop .inv .0 .near)
 
 array-write-change-2 : tie.Need-array-write-change-2 Inv-loop μ-loop
 array-write-change-2 c =
-    let at-test = c .before .before .before .before .before .before .before .before .before .before .before .before .before .before .before .before .before in
+    let at-test = c .before .before .before .before .before .before .before .before .before
+    .before .before .before .before .before .before .before .before .before in
     let at-loop = at-test .before in
     let inv = at-loop .loop .inv in
     omega (arith, eight _ _ (inv .0 .room) (omega (arith, inv .3, at-test .loop-test .taken)))
 
 loop-less : tie.Need-loop-less Inv-loop μ-loop
 loop-less c =
-    let at-taken = c .before .before .before .before .before in
-    let at-try = at-taken .before .before .before .before .before .before .before .before .before .before in
+    let at-taken = c .before .before .before .before in
+    let at-try = at-taken .before .before .before .before .before .before .before .before .before .before .before in
     let at-test = at-try .before .before .before .before .before in
     let at-loop = at-test .before in
     let at-start = at-loop .before .before .before .before .before .before .before .before .before .before .before in
@@ -146,10 +152,9 @@ loop-less c =
 
 loop-again : tie.Need-loop-again Inv-loop μ-loop
 loop-again c =
-    let at-more = c .before in
-    let at-count = at-more .before .before in
+    let at-count = c .before .before in
     let at-taken = at-count .before .before in
-    let at-try = at-taken .before .before .before .before .before .before .before .before .before .before in
+    let at-try = at-taken .before .before .before .before .before .before .before .before .before .before .before in
     let at-test = at-try .before .before .before .before .before in
     let at-loop = at-test .before in
     let at-start = at-loop .before .before .before .before .before .before .before .before .before .before .before in
@@ -158,7 +163,7 @@ loop-again c =
     let k = at-try .try-pass .kept in
     let some : 1 < nonzeros (at-loop .loop .w) = omega (arith, inv .3, at-test .loop-test .taken) in
     let taken = not-false (at-try .try-pass .result .taken) (at-taken .if1 .left) in
-    let more = not-false (at-try .try-pass .result .more) (at-more .if2 .left) in
+    let more = not-false (at-try .try-pass .result .more) (c .if2 .left) in
     let on = allowance-on (columnsOf (a .matrix .now) (a .n)) (a .n) (a .start .now) (a .source) (inv .1) (at-start .pre .4) (inv .0) (inv .4) some
     (at-try .try-pass .ensures) taken in (
       on,
@@ -199,11 +204,12 @@ returns c =
     rw (at-start .pre .2)
     (allowance-met (columnsOf (a .matrix .now) (a .n)) (a .n) (a .start .now) (a .source) (inv .1) (at-start .pre .4) (inv .0)
     (omega (arith, inv .3, c .loop-test .left))
-    (noted (columnsOf (a .matrix .now) (a .n)) (a .n) (a .start .now) (a .source) (inv .0 .near) (inv .2) _ refl refl refl))
+    (noted (columnsOf (a .matrix .now) (a .n)) (a .n) (a .start .now) (a .source) (inv .0 .near) (inv .2)
+    (on-tallied (columnsOf (a .matrix .now) (a .n)) (a .n) (a .start .now) (a .source) (inv .0)) _ refl refl refl refl refl))
 
 same-length-5 : tie.Need-same-length-5 Inv-loop μ-loop
 same-length-5 c =
-    let at-try = c .before .before .before .before .before .before .before .before .before .before in
+    let at-try = c .before .before .before .before .before .before .before .before .before .before .before in
     let at-loop = at-try .before .before .before .before .before .before in
     let at-start = at-loop .before .before .before .before .before .before .before .before .before .before .before in
     at-try .try-pass .kept .1 .1 .1 .0 ∙ at-loop .loop .inv .0 .long ∙ sym (ap length (at-start .pre .2))
@@ -219,7 +225,7 @@ same-length-8 c = search needs
 
 returns-2 : tie.Need-returns-2 Inv-loop μ-loop
 returns-2 c =
-    let at-try = c .before .before .before .before .before .before .before .before .before .before in
+    let at-try = c .before .before .before .before .before .before .before .before .before .before .before in
     let at-test = at-try .before .before .before .before .before in
     let at-loop = at-test .before in
     let at-start = at-loop .before .before .before .before .before .before .before .before .before .before .before in
@@ -230,11 +236,13 @@ returns-2 c =
     rw (at-start .pre .2)
     (allowance-left (columnsOf (a .matrix .now) (a .n)) (a .n) (a .start .now) (a .source) (inv .1) (at-start .pre .4) (inv .0) (inv .4) some
     (at-try .try-pass .ensures) left
-    (noted (columnsOf (a .matrix .now) (a .n)) (a .n) (a .start .now) (a .source) (inv .0 .near) (inv .2) _ refl refl refl))
+    (noted (columnsOf (a .matrix .now) (a .n)) (a .n) (a .start .now) (a .source) (inv .0 .near) (inv .2)
+    (tried-tallied (columnsOf (a .matrix .now) (a .n)) (a .n) (a .start .now) (a .source) (inv .1) (at-start .pre .4) (inv .0) (inv .4) some
+    (at-try .try-pass .ensures)) _ refl refl refl refl refl))
 
 same-length-9 : tie.Need-same-length-9 Inv-loop μ-loop
 same-length-9 c =
-    let at-try = c .before .before .before .before .before .before .before .before .before .before .before .before .before .before in
+    let at-try = c .before .before .before .before .before .before .before .before .before .before .before .before .before .before .before in
     let at-loop = at-try .before .before .before .before .before .before in
     let at-start = at-loop .before .before .before .before .before .before .before .before .before .before .before in
     at-try .try-pass .kept .1 .1 .1 .0 ∙ at-loop .loop .inv .0 .long ∙ sym (ap length (at-start .pre .2))
@@ -252,7 +260,7 @@ returns-3 : tie.Need-returns-3 Inv-loop μ-loop
 returns-3 c =
     let at-count = c .before .before in
     let at-taken = at-count .before .before in
-    let at-try = at-taken .before .before .before .before .before .before .before .before .before .before in
+    let at-try = at-taken .before .before .before .before .before .before .before .before .before .before .before in
     let at-test = at-try .before .before .before .before .before in
     let at-loop = at-test .before in
     let at-start = at-loop .before .before .before .before .before .before .before .before .before .before .before in
@@ -270,7 +278,8 @@ returns-3 c =
     rw (at-start .pre .2)
     (allowance-last (columnsOf (a .matrix .now) (a .n)) (a .n) (a .start .now) (a .source) (inv .1) (at-start .pre .4) (inv .0) (inv .4) some
     (at-try .try-pass .ensures) taken last
-    (noted (columnsOf (a .matrix .now) (a .n)) (a .n) (a .start .now) (a .source) (on .near) path _ refl refl refl))
+    (noted (columnsOf (a .matrix .now) (a .n)) (a .n) (a .start .now) (a .source) (on .near) path
+    (on-tallied (columnsOf (a .matrix .now) (a .n)) (a .n) (a .start .now) (a .source) on) _ refl refl refl refl refl))
 
 pub to-allowance-spec : {M : Type 1} → statement M
 to-allowance-spec =

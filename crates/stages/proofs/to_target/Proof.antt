@@ -18,18 +18,19 @@ use Rattle.trial.proofs.Trying.{lent-of}
 use Rattle.rules.specs.declared.Rule.the-variants.{Target}
 use Rattle.stages.proofs.Halting.{Falls}
 use Rattle.stages.proofs.Passing.{normal-bounded, falling}
-use Rattle.stages.proofs.Following.{OnPath, Written, on-start, eight, note, note-first, noted, target-met, target-next, target-fewer}
+use Rattle.stages.proofs.Following.{OnPath, Written, on-start, on-tallied, eight, note, note-first, noted, target-met, target-next, target-fewer}
+use Rattle.stages.proofs.Totals.{countable-at}
 use Rattle.stages.proofs.to_target.Statement.{statement}
 use Rattle.stages.proofs.to_target.Tie as tie
 
 abbrev Inv-loop : tie.InvT-loop
-Inv-loop matrix n start w₀ numbers₀ indices₀ target source stage₀ counts₀ change₀ left₀ w numbers indices rng stage counts change left =
-    OnPath (columnsOf matrix n) n start source (Target target) stage w rng × Falls plusZero (columnsOf matrix n) n start source
-    × Written (columnsOf matrix n) n start source stage counts change × (left ≡ nonzeros w)
+Inv-loop matrix n start w₀ numbers₀ indices₀ target tally₀ stage₀ counts₀ change₀ left₀ w numbers indices tally stage counts change left =
+    OnPath (columnsOf matrix n) n start (tally₀ .rng) (Target target) stage w tally × Falls plusZero (columnsOf matrix n) n start (tally₀ .rng)
+    × Written (columnsOf matrix n) n start (tally₀ .rng) stage counts change × (left ≡ nonzeros w)
     × (length numbers ≡ length numbers₀) × (length indices ≡ length indices₀)
 
 abbrev μ-loop : tie.MeasureT-loop
-μ-loop matrix n start w₀ numbers₀ indices₀ target source stage₀ counts₀ change₀ left₀ w numbers indices rng stage counts change left = nonzeros w
+μ-loop matrix n start w₀ numbers₀ indices₀ target tally₀ stage₀ counts₀ change₀ left₀ w numbers indices tally stage counts change left = nonzeros w
 
 count-nonzeros-requires : tie.Need-count-nonzeros-requires Inv-loop μ-loop
 count-nonzeros-requires c κs = search needs
@@ -62,11 +63,12 @@ loop-holds c =
     let same = at-start .pre .2 in
     let few = at-start .pre .0 .few in
     let small : bounded one (a .start .now) ≡ true = rw same at (at-start .pre .1) in
-    let on = on-start (columnsOf (a .matrix .now) (a .n)) (a .n) (a .start .now) (a .source) (omega (arith, few, ap length same)) (Target (a .target)) in (
+    let on = on-start (columnsOf (a .matrix .now) (a .n)) (a .n) (a .start .now) (a .source) (omega (arith, few, ap length same)) (Target (a .target))
+    (record { directions = 0; sweeps = 0; rng = a .source }) refl refl refl in (
       rw same on,
       falling (columnsOf (a .matrix .now) (a .n)) (a .n) (a .start .now) (a .source)
           (normal-bounded (a .start .now) (λ j l. at-known .shared-slice-known2 .given j) small) (omega (arith, few, ap length same)),
-      note-first (columnsOf (a .matrix .now) (a .n)) (a .n) (a .start .now) (a .source) (omega (arith, few, ap length same))
+      note-first (columnsOf (a .matrix .now) (a .n)) (a .n) (a .start .now) (a .source) on
           (at-count .count-nonzeros .ensures ∙ ap nonzeros same)
           (c .change-of .ensures ∙ ap (maxChange (columnsOf (a .matrix .now) (a .n)) (length (a .start .now)) (a .n) (a .start .now)) same),
       at-count .count-nonzeros .ensures,
@@ -79,9 +81,12 @@ halving-pass-requires c κs =
     let at-test = c .before .before .before in
     let at-loop = at-test .before in
     let at-start = at-loop .before .before .before .before .before .before .before .before .before .before in
+    let a = at-start .args in
     let inv = at-loop .loop .inv in (
       ready-still (at-start .pre .0) (inv .0 .long ∙ sym (ap length (at-start .pre .2))) (inv .4) (inv .5),
       omega (arith, inv .3, at-test .loop-test .taken, at-start .pre .3),
+      countable-at (omega (arith, at-start .pre .0 .few, ap length (at-start .pre .2))) (inv .0 .near)
+          (on-tallied (columnsOf (a .matrix .now) (a .n)) (a .n) (a .start .now) (a .source) (inv .0)),
     )
 
 add-stage : tie.Need-add-stage Inv-loop μ-loop
@@ -180,7 +185,8 @@ returns c =
     rw (at-start .pre .2)
     (target-met (columnsOf (a .matrix .now) (a .n)) (a .n) (a .start .now) (a .source) (inv .1) (at-start .pre .3) (inv .0)
     (omega (arith, inv .3, c .loop-test .left))
-    (noted (columnsOf (a .matrix .now) (a .n)) (a .n) (a .start .now) (a .source) (inv .0 .near) (inv .2) _ refl refl refl))
+    (noted (columnsOf (a .matrix .now) (a .n)) (a .n) (a .start .now) (a .source) (inv .0 .near) (inv .2)
+    (on-tallied (columnsOf (a .matrix .now) (a .n)) (a .n) (a .start .now) (a .source) (inv .0)) _ refl refl refl refl refl))
 
 pub to-target-spec : {M : Type 1} → statement M
 to-target-spec =

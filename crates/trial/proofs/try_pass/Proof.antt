@@ -16,7 +16,7 @@ halving-pass-requires : tie.Need-halving-pass-requires
 halving-pass-requires c κs =
     let at-copy = c .before .before .before .before .before in
     let at-start = at-copy .before .before .before .before .before .before .before .before .before in
-    (ready-still (at-start .pre .0) (ap length (at-copy .copy .ensures)) refl refl, rw (at-copy .copy .ensures) (at-start .pre .3))
+    (ready-still (at-start .pre .0) (ap length (at-copy .copy .ensures)) refl refl, rw (at-copy .copy .ensures) (at-start .pre .3), at-start .pre .4)
 
 change-of-requires : tie.Need-change-of-requires
 change-of-requires c κs =
@@ -50,7 +50,7 @@ returns c =
     let at-copy = at-pass .before .before .before .before .before .before in
     let at-start = at-copy .before .before .before .before .before .before .before .before .before in
     let a = at-start .args in
-    left-tried (columnsOf (a .matrix .now) (a .n)) (a .n) (a .start .now) (a .allowance) (a .cap) (a .w .now) (a .rng)
+    left-tried (columnsOf (a .matrix .now) (a .n)) (a .n) (a .start .now) (a .allowance) (a .cap) (a .w .now) (a .tally)
     (at-copy .copy .ensures) (at-pass .halving-pass .ensures) (at-change .change-of .ensures)
     (sym (at-ends .ends-there .ensures) ∙ c .if1 .taken) _ refl refl refl refl
 
@@ -85,7 +85,7 @@ returns-2 c =
     let at-copy = at-pass .before .before .before .before .before .before in
     let at-start = at-copy .before .before .before .before .before .before .before .before .before in
     let a = at-start .args in
-    taken-tried (columnsOf (a .matrix .now) (a .n)) (a .n) (a .start .now) (a .allowance) (a .cap) (a .w .now) (a .rng)
+    taken-tried (columnsOf (a .matrix .now) (a .n)) (a .n) (a .start .now) (a .allowance) (a .cap) (a .w .now) (a .tally)
     (at-copy .copy .ensures) (at-pass .halving-pass .ensures) (at-change .change-of .ensures)
     (sym (at-ends .ends-there .ensures) ∙ at-goes .if1 .left) _ (at-back .copy2 .ensures) _ refl refl refl (ap not (c .ends-there2 .ensures))
 
