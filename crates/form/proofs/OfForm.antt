@@ -180,12 +180,12 @@ head-read {t} {e} s fit a =
     (record { ok = true; rule = ruleOf (s .wish); allowance = allowanceOf (s .wish); next = p }) (record { ok = true; edition = s .edition; next = e })
     (sym (seg-word thinWord (seg-first thinWord _ a))) (sym (z .read)) (sym f) (sym (seg-byte b)) (sym r) (sym g))
 
-length-entries : (e : ℕ → ℕ) (k : ℕ) → length (entriesText e k) ≡ 17 * k
+pub length-entries : (e : ℕ → ℕ) (k : ℕ) → length (entriesText e k) ≡ 17 * k
 unfolding entriesText
 length-entries e zero = refl
 length-entries e (suc k) = length-append (entriesText e k) _ ∙ omega (arith, length-entries e k, length-bits (e k))
 
-length-column : (n w : ℕ) (e : ℕ → ℕ) → length (columnText n w e) ≡ lineLong n
+pub length-column : (n w : ℕ) (e : ℕ → ℕ) → length (columnText n w e) ≡ lineLong n
 unfolding columnText
 length-column n w e =
     omega (
@@ -196,11 +196,11 @@ length-column n w e =
       length-entries e n,
     )
 
-pub length-columns : (s : Sheet) (k : ℕ) → length (columnsText s k) ≡ k * lineLong (s .n)
+pub length-columns : (n : ℕ) (w : ℕ → ℕ) (e : ℕ → ℕ → ℕ) (k : ℕ) → length (columnsText n w e k) ≡ k * lineLong n
 unfolding columnsText
-length-columns s zero = omega arith
-length-columns s (suc k) =
-    length-append (columnsText s k) _ ∙ omega (arith, length-columns s k, length-column (s .n) (s .weight k) (s .entry k))
+length-columns n w e zero = omega arith
+length-columns n w e (suc k) =
+    length-append (columnsText n w e k) _ ∙ omega (arith, length-columns n w e k, length-column n (w k) (e k))
 
 -- an entry that is read at i
 record EntryRead (t : List ℕ) (i x : ℕ) : Type 0 where
@@ -258,24 +258,24 @@ column-read {t} {i} {j} n w e h g a =
     }
 
 -- each column's line
-columns-stand : {t : List ℕ} {i j : ℕ} (s : Sheet) (k : ℕ) → Seg t i j (columnsText s k) → (q : ℕ) → q < k
-    → Seg t (i + q * lineLong (s .n)) (i + suc q * lineLong (s .n)) (columnText (s .n) (s .weight q) (s .entry q))
+columns-stand : {t : List ℕ} {i j : ℕ} (n : ℕ) (w : ℕ → ℕ) (e : ℕ → ℕ → ℕ) (k : ℕ) → Seg t i j (columnsText n w e k) → (q : ℕ) → q < k
+    → Seg t (i + q * lineLong n) (i + suc q * lineLong n) (columnText n (w q) (e q))
 unfolding columnsText
-columns-stand {t} {i} {j} s zero a q l = absurd (omega arith)
-columns-stand {t} {i} {j} s (suc k) a q l = go (decLt q k) (columns-stand s k (seg-first (columnsText s k) line a) q)
+columns-stand {t} {i} {j} n w e zero a q l = absurd (omega arith)
+columns-stand {t} {i} {j} n w e (suc k) a q l = go (decLt q k) (columns-stand n w e k (seg-first (columnsText n w e k) line a) q)
   where
     line : List ℕ
-    line = columnText (s .n) (s .weight k) (s .entry k)
+    line = columnText n (w k) (e k)
 
-    go : Dec (q < k) → (q < k → Seg t (i + q * lineLong (s .n)) (i + suc q * lineLong (s .n)) (columnText (s .n) (s .weight q) (s .entry q)))
-        → Seg t (i + q * lineLong (s .n)) (i + suc q * lineLong (s .n)) (columnText (s .n) (s .weight q) (s .entry q))
+    go : Dec (q < k) → (q < k → Seg t (i + q * lineLong n) (i + suc q * lineLong n) (columnText n (w q) (e q)))
+        → Seg t (i + q * lineLong n) (i + suc q * lineLong n) (columnText n (w q) (e q))
     go (yes g) r = r g
     go (no g) r =
         let same : q ≡ k = omega arith in
-        let p : i + length (columnsText s k) ≡ i + k * lineLong (s .n) = ap (λ (x : ℕ). i + x) (length-columns s k) in
-        let b : Seg t (i + k * lineLong (s .n)) j line = rw p at (seg-rest (columnsText s k) line a) in
-        let e : j ≡ i + suc k * lineLong (s .n) = omega (arith, b .ends, length-column (s .n) (s .weight k) (s .entry k)) in
-        rw same (rw e at b)
+        let p : i + length (columnsText n w e k) ≡ i + k * lineLong n = ap (λ (x : ℕ). i + x) (length-columns n w e k) in
+        let b : Seg t (i + k * lineLong n) j line = rw p at (seg-rest (columnsText n w e k) line a) in
+        let f : j ≡ i + suc k * lineLong n = omega (arith, b .ends, length-column n (w k) (e k)) in
+        rw same (rw f at b)
 
 -- the column and the row of an entry of the matrix
 place-of : (m n k : ℕ) → k < m * n → (k / n < m) × (k % n < n)
@@ -298,16 +298,19 @@ no-line-wrong t h e f g l =
 says : (t : List ℕ) (s : Sheet) → Fits s → t ≡ sheetText s → Says t s
 says t s fit e =
     let whole : Seg t 0 (length t) (sheetText s) = subst (λ (w : List ℕ). Seg t 0 (length t) w) e (whole-seg t) in
+    let columns : List ℕ = columnsText (s .n) (s .weight) (s .entry) (s .m) in
     let start : ℕ = 0 + length (headText s) in
     let h : Head = headFor s start in
-    let head : headOf t ≡ h = head-read s fit (seg-first (headText s) (columnsText s (s .m)) whole) in
-    let lines : Seg t start (length t) (columnsText s (s .m)) = seg-rest (headText s) (columnsText s (s .m)) whole in
+    let head : headOf t ≡ h = head-read s fit (seg-first (headText s) columns whole) in
+    let lines : Seg t start (length t) columns = seg-rest (headText s) columns whole in
     let column : (j : ℕ) → j < s .m → ColumnRead t (s .n) (start + j * lineLong (s .n)) (s .weight j) (s .entry j) =
-    λ j g. column-read (s .n) (s .weight j) (s .entry j) (fit .weights j g) (λ i l. fit .entries j i g l) (columns-stand s (s .m) lines j g) in
+    λ j g. column-read (s .n) (s .weight j) (s .entry j) (fit .weights j g) (λ i l. fit .entries j i g l)
+    (columns-stand (s .n) (s .weight) (s .entry) (s .m) lines j g) in
     record {
       fits = fit;
       written = e;
-      right = no-line-wrong t h head refl (λ j g. column j g .good) (lines .ends ∙ ap (λ (x : ℕ). start + x) (length-columns s (s .m)));
+      right = no-line-wrong t h head refl (λ j g. column j g .good)
+          (lines .ends ∙ ap (λ (x : ℕ). start + x) (length-columns (s .n) (s .weight) (s .entry) (s .m)));
       columns = ap (λ (x : Head). x .m) head;
       rows = ap (λ (x : Head). x .n) head;
       seed = ap (λ (x : Head). x .seed) head;

@@ -133,14 +133,14 @@ edition-said t i h = go (spelled secondEdition t i) refl h
     go false e g = record { stands = tested t i newline g (omega arith); fits = (omega arith, omega arith) }
 
 -- the first line, and what it says
-record HeadSaid (t : List ℕ) (h : Head) (s : Sheet) : Type 0 where
-  stands : Seg t 0 (h .next) (headText s)
-  wishes : wishFits (s .wish) ≡ true
-  editions : (1 ≤ h .edition) × (h .edition ≤ 2)
-  rule : h .rule ≡ ruleOf (s .wish)
-  allowance : h .allowance ≡ allowanceOf (s .wish)
+pub record HeadSaid (t : List ℕ) (h : Head) (s : Sheet) : Type 0 where
+  pub stands : Seg t 0 (h .next) (headText s)
+  pub wishes : wishFits (s .wish) ≡ true
+  pub editions : (1 ≤ h .edition) × (h .edition ≤ 2)
+  pub rule : h .rule ≡ ruleOf (s .wish)
+  pub allowance : h .allowance ≡ allowanceOf (s .wish)
 
-head-said : (t : List ℕ) → headOf t .ok ≡ true → HeadSaid t (headOf t) (sheetOf t)
+pub head-said : (t : List ℕ) → headOf t .ok ≡ true → HeadSaid t (headOf t) (sheetOf t)
 unfolding headOf allTo
 head-said t h =
     let g = good-head t h in
@@ -168,7 +168,7 @@ entries-said t i e (suc k) h g =
     seg-join (entries-said t i e k (λ q l. h q (omega arith)) g) (seg-join (tested t (i + 17 * k) tab (p .0) (omega arith)) bits)
 
 -- the line of a column
-column-said : (t : List ℕ) (n i : ℕ) → isColumn t n i ≡ true
+pub column-said : (t : List ℕ) (n i : ℕ) → isColumn t n i ≡ true
     → Seg t i (i + lineLong n) (columnText n (numberAt 16 t (i + 4) 16) (λ q. numberAt 16 t (i + 4 + 17 + 17 * q) 16))
 unfolding isColumn columnText allTo
 column-said t n i h =
@@ -187,7 +187,7 @@ column-said t n i h =
 
 -- the lines of the first k columns
 columns-said : (t : List ℕ) (k : ℕ) → ((j : ℕ) → j < k → isColumn t (headOf t .n) (headOf t .next + j * lineLong (headOf t .n)) ≡ true)
-    → Seg t (headOf t .next) (headOf t .next + k * lineLong (headOf t .n)) (columnsText (sheetOf t) k)
+    → Seg t (headOf t .next) (headOf t .next + k * lineLong (headOf t .n)) (columnsText (headOf t .n) (sheetOf t .weight) (sheetOf t .entry) k)
 unfolding columnsText
 columns-said t zero h = record { ends = omega arith; is = refl }
 columns-said t (suc k) h =

@@ -46,12 +46,13 @@ wishText (within a cap) = withinWord ++ (bitsText a ++ (tab ∷ capText cap))
 abbrev pub editionText : ℕ → List ℕ
 editionText e = pick (eqb e 2) secondEdition (newline ∷ [])
 
--- the first line
+-- the first line, of the sizes, the seed, the wish and the edition
+abbrev pub firstLine : ℕ → ℕ → ℕ → Wish → ℕ → List ℕ
+firstLine m n seed wish edition =
+    thinWord ++ (countText m ++ (tab ∷ (countText n ++ (tab ∷ (bitsText seed ++ (tab ∷ (wishText wish ++ editionText edition)))))))
+
 abbrev pub headText : Sheet → List ℕ
-headText s =
-    thinWord
-    ++ (countText (s .m) ++ (tab ∷ (countText (s .n) ++ (tab ∷
-    (bitsText (s .seed) ++ (tab ∷ (wishText (s .wish) ++ editionText (s .edition))))))))
+headText s = firstLine (s .m) (s .n) (s .seed) (s .wish) (s .edition)
 
 -- k entries, each after a tab
 unfoldable pub entriesText : (ℕ → ℕ) → ℕ → List ℕ
@@ -63,13 +64,13 @@ unfoldable pub columnText : ℕ → ℕ → (ℕ → ℕ) → List ℕ
 columnText n weight e = colWord ++ (bitsText weight ++ (entriesText e n ++ (newline ∷ [])))
 
 -- the lines of the first k columns
-unfoldable pub columnsText : Sheet → ℕ → List ℕ
-columnsText s zero = []
-columnsText s (suc k) = columnsText s k ++ columnText (s .n) (s .weight k) (s .entry k)
+unfoldable pub columnsText : ℕ → (ℕ → ℕ) → (ℕ → ℕ → ℕ) → ℕ → List ℕ
+columnsText n weight entry zero = []
+columnsText n weight entry (suc k) = columnsText n weight entry k ++ columnText n (weight k) (entry k)
 
 -- the whole text
 abbrev pub sheetText : Sheet → List ℕ
-sheetText s = headText s ++ columnsText s (s .m)
+sheetText s = headText s ++ columnsText (s .n) (s .weight) (s .entry) (s .m)
 
 -- the counts of a rule are at most 4294967295, and the allowance's bits are 64
 abbrev pub capFits : Cap → Bool
