@@ -374,6 +374,37 @@ static void thin_sheet(void) {
     hold("knob_thin_sheet", memcmp(answer_room, expected, sizeof expected - 1) == 0);
 }
 
+/* A sheet of edition 2 with a cap, written, and read back; every number in it is another. */
+static void written_and_read(void) {
+    static const char sheet[] = "thin\t2\t3\t0123456789ABCDEF\twithin\tFFF0000000000007\t19\t2\n"
+                                "col\t8000000000000000\t0000000000000011\t0000000000000012\t0000000000000013\n"
+                                "col\t0000000000000022\t0000000000000014\t0000000000000015\t0000000000000016\n";
+    static const uint64_t entries[] = {0x11, 0x12, 0x13, 0x14, 0x15, 0x16}, halves[] = {0x8000000000000000u, 0x22};
+    static uint64_t matrix_bits[2049], weight_bits[33], first_bits[8];
+    size_t ours = 1;
+    {
+        const uint64_t *matrix = entries, *weights = halves;
+        const size_t matrix_length = 6, m = 2, n = 3, weights_length = 2, text_length = sizeof sheet - 1;
+        const uint64_t seed = 0x0123456789ABCDEFu, allowance = 0xFFF0000000000007u, limit = 19;
+        const uint32_t edition = 2, rule = 2;
+        uint8_t *text = answer_room;
+        size_t *length = &ours;
+        lend();
+        hold("knob_write_sheet, its number", CALL_knob_write_sheet == 0);
+        hold("knob_write_sheet", ours == sizeof sheet - 1 && memcmp(answer_room, sheet, ours) == 0 && answer_room[ours] == 0x5A);
+    }
+    {
+        const uint8_t *text = answer_room;
+        uint64_t *matrix = matrix_bits, *weights = weight_bits, *first = first_bits;
+        const size_t text_length = sizeof sheet - 1, matrix_length = 2048, weights_length = 32, first_length = 7;
+        static const uint64_t seven[] = {2, 3, 0x0123456789ABCDEFu, 2, 2, 0xFFF0000000000007u, 19};
+        hold("knob_read_sheet, its number", CALL_knob_read_sheet == 0);
+        hold("knob_read_sheet, the matrix", memcmp(matrix_bits, entries, sizeof entries) == 0 && matrix_bits[6] == 0);
+        hold("knob_read_sheet, the weights", memcmp(weight_bits, halves, sizeof halves) == 0 && weight_bits[2] == 0);
+        hold("knob_read_sheet, the first line", memcmp(first_bits, seven, sizeof seven) == 0 && first_bits[7] == 0);
+    }
+}
+
 int main(void) {
     draws();
     sparsify();
@@ -382,5 +413,6 @@ int main(void) {
     margins();
     moved();
     thin_sheet();
+    written_and_read();
     return wrong;
 }

@@ -79,6 +79,7 @@ double knob_cos_draw_2(uint64_t word); /* by edition 2 */
       9   the sum of the weights' magnitudes, in doubles, is 0 or infinite           x         x
      10   used for nothing
      11   an entry is not finite or above 2^32 in magnitude                                             x
+     16   a buffer is shorter than the text that is to be written to it: knob_write_sheet alone, which says its own order
 
    A refusal answers its number with 0 in every other field, and changes neither output nor scratch: every double is the one that it was.
    (That a NaN among them keeps its pattern is tested and not proved: a proof here knows one NaN.)
@@ -102,7 +103,8 @@ enum knob_number {
     KNOB_REFUSED_SUM = 9,
     KNOB_REFUSED_COLORING_ENTRY = 11,
     KNOB_REFUSED_INFINITE_ALLOWANCE = 12,
-    KNOB_REFUSED_EDITION = 13
+    KNOB_REFUSED_EDITION = 13,
+    KNOB_REFUSED_BUFFER = 16
 };
 
 #define KNOB_NUMBERS(m, n) ((size_t)(m) * ((size_t)(n) + 1) + (size_t)(m) * (size_t)(m) + 16 * (size_t)(m) + 8 * ((size_t)(n) + 1))
@@ -186,6 +188,24 @@ uint64_t knob_turned_words(const double *matrix, size_t matrix_length, size_t m,
    are enough for every answer. Uses about 80 KiB of stack. */
 #define KNOB_SHEET_ANSWER 1342
 size_t knob_thin_sheet(const uint8_t *text, size_t text_length, uint8_t *answer, size_t answer_length);
+
+/* Writes the text of a sheet, which knob_thin_sheet reads, from lists of bits: matrix, weights, seed and allowance are the bits of
+   doubles and of the seed, so that every NaN keeps its pattern and every zero its sign. edition is 1, which is not written, or 2. rule is
+   0 for a target, 1 for an allowance without a cap, 2 for one with a cap; limit is the target or the cap, and what a rule does not use is
+   ignored. Answers 0, or the first of 2 (another rule), 3 (m above 32, n above 64, a limit above 4294967295), 4 (lists of other lengths),
+   13 (another edition), 16 (the text is longer than text_length). *length is the length of the text, 0 on a refusal; the bytes of text
+   behind it stay, and all of them on a refusal. KNOB_SHEET_TEXT bytes are enough for every sheet. Uses about 36 KiB of stack. */
+#define KNOB_SHEET_TEXT 35572
+uint64_t knob_write_sheet(const uint64_t *matrix, size_t matrix_length, size_t m, size_t n,
+                          const uint64_t *weights, size_t weights_length, uint64_t seed, uint32_t edition,
+                          uint32_t rule, uint64_t allowance, uint64_t limit,
+                          uint8_t *text, size_t text_length, size_t *length);
+
+/* Reads a sheet as bits: matrix and weights to the fronts of their lists, and to first m, n, the seed, the edition, the rule, the bits
+   of the allowance and the limit, 0 where the rule has none. Answers 0; or the number of the first wrong line, from 1; or, before that,
+   UINT64_MAX where matrix_length is below 2048, weights_length below 32 or first_length below 7. Only with 0 is anything written. */
+uint64_t knob_read_sheet(const uint8_t *text, size_t text_length, uint64_t *matrix, size_t matrix_length,
+                         uint64_t *weights, size_t weights_length, uint64_t *first, size_t first_length);
 
 /* Which word moved: the change of every row when the weights before are replaced by after, both used as given. A change is signed: the
    running sum of u (before - after) over the columns. rows[k] is the row that stands at place k by the magnitude of its change, from

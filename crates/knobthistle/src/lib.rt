@@ -11,6 +11,8 @@ use sheet::thin_sheet;
 use sparsification::Answer;
 use sparsification::sparsify;
 use sparsification::sparsify_within;
+use writing::read_sheet;
+use writing::write_sheet;
 ghost use mathlib.Core.Path.{_≡_};
 ghost use Rattle.root.specs.Root.{sqrtOf};
 ghost use Rattle.draw.specs.SplitMix.{seeded, afterOf};
@@ -22,6 +24,8 @@ ghost use Rattle.sparsification.specs.Answers.{Thinned};
 ghost use Rattle.rules.specs.declared.Rule.the-variants.{Target, Within};
 ghost use Rattle.margins.specs.Answers.{changeAnswer, turnedAnswer};
 ghost use Rattle.sheet.specs.Answer.{Answered};
+ghost use Rattle.writing.specs.Writing.{WroteFor};
+ghost use Rattle.writing.specs.ReadingBack.{ReadBack};
 ghost use Rattle.moving.specs.Answers.{Listed};
 
 // The next uniform draw by an edition; the state moves on.
@@ -259,6 +263,54 @@ pub extern "C" fn knob_thin_sheet(text: &[u8], answer: &mut [u8]) -> usize
     ensures { λ r. ⌜ Answered (now (text .entry)) (now (answer .entry)) r (now (answer .exit)) ⌝ }
 {
     thin_sheet(text, answer)
+}
+
+// Writes the text of a sheet in a lent buffer, doubles by their bits; the number. How long the text is goes to `length`, 0 on a refusal.
+#[no_mangle]
+pub extern "C" fn knob_write_sheet(
+    matrix: &[u64],
+    m: usize,
+    n: usize,
+    weights: &[u64],
+    seed: u64,
+    edition: u32,
+    rule: u32,
+    allowance: u64,
+    limit: u64,
+    text: &mut [u8],
+    length: &mut usize,
+) -> u64
+    ensures { λ r. ⌜ WroteFor (now (matrix .entry)) m n (now (weights .entry)) seed edition rule allowance limit (now (text .entry))
+        (record { number = r; length = now (length .exit) }) (now (text .exit)) ⌝ }
+{
+    let written = write_sheet(
+        matrix,
+        m,
+        n,
+        weights,
+        seed,
+        edition,
+        rule,
+        allowance,
+        limit,
+        text,
+    );
+    *length = written.length;
+    written.number
+}
+
+// Reads a sheet as bits into lent lists; 0, or the number of its first wrong line, or the largest number where a list is too short.
+#[no_mangle]
+pub extern "C" fn knob_read_sheet(
+    text: &[u8],
+    matrix: &mut [u64],
+    weights: &mut [u64],
+    first: &mut [u64],
+) -> u64
+    ensures { λ r. ⌜ ReadBack (now (text .entry)) (now (matrix .entry)) (now (weights .entry)) (now (first .entry)) r (now (matrix .exit))
+        (now (weights .exit)) (now (first .exit)) ⌝ }
+{
+    read_sheet(text, matrix, weights, first)
 }
 
 // Which word moved: the rows by the magnitude of their changes, and the changes beside them.

@@ -137,4 +137,32 @@ extern "C" {
         changes: *mut f64,
         changes_length: usize,
     ) -> u64;
+
+    pub fn knob_write_sheet(
+        matrix: *const u64,
+        matrix_length: usize,
+        m: usize,
+        n: usize,
+        weights: *const u64,
+        weights_length: usize,
+        seed: u64,
+        edition: u32,
+        rule: u32,
+        allowance: u64,
+        limit: u64,
+        text: *mut u8,
+        text_length: usize,
+        length: *mut usize,
+    ) -> u64;
+
+    pub fn knob_read_sheet(
+        text: *const u8,
+        text_length: usize,
+        matrix: *mut u64,
+        matrix_length: usize,
+        weights: *mut u64,
+        weights_length: usize,
+        first: *mut u64,
+        first_length: usize,
+    ) -> u64;
 }

@@ -59,6 +59,7 @@ mod lent;
 mod margins;
 mod moving;
 mod refusal;
+mod sheets;
 pub mod sparsification;
 mod thinning;
 
@@ -67,6 +68,7 @@ pub use lent::{MAX_COLUMNS, MAX_ROWS};
 pub use margins::{max_margin_change, turned_words};
 pub use moving::{moved, Moved};
 pub use refusal::Refusal;
+pub use sheets::{read_sheet, write_sheet, Sheet};
 pub use thinning::{sparsify, sparsify_within, thin, Edition, Job, Rule, Thinned};
 
 /// The example of the repository's README, built and run as a test.

@@ -31,11 +31,13 @@ pub enum Refusal {
     Sum = 9,
     /// 11: an entry of a colouring is not finite or exceeds 2^32 in magnitude.
     ColoringEntry = 11,
+    /// 16: a buffer is shorter than the text of a sheet. This crate lends enough, so none of its calls gives it.
+    Buffer = 16,
 }
 
 impl Refusal {
     /// Every refusal, in the order of the tests.
-    pub const ALL: [Refusal; 12] = [
+    pub const ALL: [Refusal; 13] = [
         Refusal::Allowance,
         Refusal::InfiniteAllowance,
         Refusal::Zero,
@@ -48,9 +50,10 @@ impl Refusal {
         Refusal::Weight,
         Refusal::Sum,
         Refusal::ColoringEntry,
+        Refusal::Buffer,
     ];
 
-    /// The number, 1 to 13 but 10, which is used for nothing.
+    /// The number, 1 to 13 or 16; 10 is used for nothing.
     pub fn number(self) -> u64 {
         self as u64
     }
@@ -80,6 +83,7 @@ impl fmt::Display for Refusal {
             Refusal::Weight => "a weight or a threshold is not finite",
             Refusal::Sum => "the sum of the weights' magnitudes is 0 or infinite",
             Refusal::ColoringEntry => "an entry is not finite or exceeds 2^32 in magnitude",
+            Refusal::Buffer => "a buffer is shorter than the text",
         })
     }
 }
