@@ -151,7 +151,7 @@ fn write_digits(a: &mut [u8], x: u64, base: u64)
 }
 
 // How many decimal digits a number has.
-fn width_of(x: u64) -> usize
+pub fn width_of(x: u64) -> usize
     ensures { λ r. ⌜ r ≡ widthOf x ⌝ }
 {
     let mut rest = x;

@@ -257,6 +257,10 @@ column-read {t} {i} {j} n w e h g a =
       entry = λ q m. ap (λ (x : ℕ). numberAt 16 t x 16) (place q) ∙ entry q m .says;
     }
 
+-- the line of a column is one
+pub column-good : (n w : ℕ) (e : ℕ → ℕ) → w < 2 ^ 64 → ((q : ℕ) → q < n → e q < 2 ^ 64) → isColumn (columnText n w e) n 0 ≡ true
+column-good n w e h g = column-read n w e h g (whole-seg (columnText n w e)) .good
+
 -- each column's line
 columns-stand : {t : List ℕ} {i j : ℕ} (n : ℕ) (w : ℕ → ℕ) (e : ℕ → ℕ → ℕ) (k : ℕ) → Seg t i j (columnsText n w e k) → (q : ℕ) → q < k
     → Seg t (i + q * lineLong n) (i + suc q * lineLong n) (columnText n (w q) (e q))

@@ -213,6 +213,9 @@ seed-below : (t : List ℕ) → headOf t .seed < 2 ^ 64
 unfolding headOf
 seed-below t = bits-below t (sizesAt t 5 .next)
 
+pub head-fits : (t : List ℕ) → headOf t .ok ≡ true → Fits (sheetOf t)
+head-fits t h = said-fits t h (head-said t h) (seed-below t)
+
 -- What is taken is of the form: the text is that of the sheet that it says, and what is read is what the sheet says.
 pub taken-is-of-the-form : (text : List ℕ) → wrongLine text ≡ 0 → Says text (sheetOf text)
 taken-is-of-the-form text h =
@@ -220,7 +223,7 @@ taken-is-of-the-form text h =
     let a = head-said text (r .first) in
     let all : Seg text 0 (endOf (headOf text)) (sheetText (sheetOf text)) = seg-join (a .stands) (columns-said text (headOf text .m) (r .columns)) in
     record {
-      fits = said-fits text (r .first) a (seed-below text);
+      fits = head-fits text (r .first);
       written = seg-whole text (sheetText (sheetOf text)) (endOf (headOf text)) all (r .long);
       right = h;
       columns = refl;

@@ -30,7 +30,7 @@ fn are_entries(text: &[u8], n: usize, at: usize) -> bool
 }
 
 // Whether a column's line with n entries stands at a place.
-fn is_column(text: &[u8], n: usize, at: usize) -> bool
+pub fn is_column(text: &[u8], n: usize, at: usize) -> bool
     requires { ⌜ (n ≤ 64) × (at ≤ 60000) ⌝ }
     ensures { λ r. ⌜ r ≡ isColumn (now (text .entry)) n at ⌝ }
 {
