@@ -405,6 +405,20 @@ static void written_and_read(void) {
     }
 }
 
+/* A sheet whose first column lost a digit, and which has a line too many. */
+static void salvage(void) {
+    static const char sheet[] = "thin\t2\t1\t0123456789ABCDEF\ttarget\t7\ncol\t3FF0000000000000\t3FF000000000000\n"
+                                "col\t0000000000000022\t8000000000000000\n\n";
+    static const char expected[] = "thin\t1\t1\t0123456789ABCDEF\ttarget\t7\ncol\t0000000000000022\t8000000000000000\nlost\t2\nlost\t4\n\x5A";
+    const uint8_t *text = text_room;
+    uint8_t *answer = answer_room;
+    const size_t text_length = sizeof sheet - 1, answer_length = KNOB_SHEET_ANSWER;
+    memcpy(text_room, sheet, sizeof sheet);
+    lend();
+    hold("knob_salvage, its length", CALL_knob_salvage == sizeof expected - 2);
+    hold("knob_salvage", memcmp(answer_room, expected, sizeof expected - 1) == 0);
+}
+
 int main(void) {
     draws();
     sparsify();
@@ -414,5 +428,6 @@ int main(void) {
     moved();
     thin_sheet();
     written_and_read();
+    salvage();
     return wrong;
 }

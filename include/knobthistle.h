@@ -207,6 +207,13 @@ uint64_t knob_write_sheet(const uint64_t *matrix, size_t matrix_length, size_t m
 uint64_t knob_read_sheet(const uint8_t *text, size_t text_length, uint64_t *matrix, size_t matrix_length,
                          uint64_t *weights, size_t weights_length, uint64_t *first, size_t first_length);
 
+/* What is good of a damaged sheet that is whole in memory: of the m lines after the first, or as many as there are, those that are columns'
+   lines of the form, behind the first line with their number in the place of m; then a line `lost` and its number, from 1, for each other
+   line after the first; a last piece without a newline is such a line. Where the first line is wrong it is `bad` and 1 alone, and where m
+   is above 0 and no column is left `bad` and 2 alone. Any bytes may be given. Returns how many bytes were written to answer; where the
+   text is longer than answer_length, 0, and nothing is written. Uses about 75 KiB of stack. */
+size_t knob_salvage(const uint8_t *text, size_t text_length, uint8_t *answer, size_t answer_length);
+
 /* Which word moved: the change of every row when the weights before are replaced by after, both used as given. A change is signed: the
    running sum of u (before - after) over the columns. rows[k] is the row that stands at place k by the magnitude of its change, from
    the largest down, the smaller row first where two are equal, and changes[k] is its change; every row is there once, and the magnitude

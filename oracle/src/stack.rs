@@ -1,7 +1,7 @@
-// needs: knob_discrepancy_coloring knob_sparsify knob_sparsify_within knob_max_margin_change knob_turned_words knob_thin_sheet knob_moved knob_moved_again
+// needs: knob_discrepancy_coloring knob_sparsify knob_sparsify_within knob_max_margin_change knob_turned_words knob_thin_sheet knob_moved knob_moved_again knob_write_sheet knob_read_sheet knob_salvage
 //! The stack that each call uses, at the largest sizes: the stack below a call is painted before it, and what is left of the paint is
-//! counted after it. The lent scratch is all else that a call may use, so this is its whole memory. A sheet's call has its scratch on the
-//! stack too, and so may use twice as much.
+//! counted after it. The lent scratch is all else that a call may use, so this is its whole memory. The calls that answer a sheet
+//! or save one have their scratch on the stack too, and so may use twice as much.
 
 #[path = "shared/chance.rs"]
 mod chance;
@@ -24,6 +24,35 @@ use tally::{end, Tally};
 
 extern "C" {
     fn knob_thin_sheet(text: *const u8, text_length: usize, answer: *mut u8, answer_length: usize) -> usize;
+    fn knob_salvage(text: *const u8, text_length: usize, answer: *mut u8, answer_length: usize) -> usize;
+
+    fn knob_write_sheet(
+        matrix: *const u64,
+        matrix_length: usize,
+        m: usize,
+        n: usize,
+        weights: *const u64,
+        weights_length: usize,
+        seed: u64,
+        edition: u32,
+        rule: u32,
+        allowance: u64,
+        limit: u64,
+        text: *mut u8,
+        text_length: usize,
+        length: *mut usize,
+    ) -> u64;
+
+    fn knob_read_sheet(
+        text: *const u8,
+        text_length: usize,
+        matrix: *mut u64,
+        matrix_length: usize,
+        weights: *mut u64,
+        weights_length: usize,
+        first: *mut u64,
+        first_length: usize,
+    ) -> u64;
 }
 
 /// How much is painted, and how much a call may use.
@@ -139,6 +168,19 @@ fn all() -> Tally {
     measure("thin_sheet", 2 * ALLOWED, &mut tally, || {
         let end = unsafe { knob_thin_sheet(text.as_ptr(), text.len(), said.as_mut_ptr(), said.len()) };
         u64::from(!said[..end].starts_with(b"ok\t"))
+    });
+    let (mut bits, mut few, mut first, mut room) = (vec![0u64; 2048], vec![0u64; 32], vec![0u64; 7], vec![0u8; 35572]);
+    measure("read_sheet", ALLOWED, &mut tally, || unsafe {
+        let lists = (bits.as_mut_ptr(), few.as_mut_ptr(), first.as_mut_ptr());
+        knob_read_sheet(text.as_ptr(), text.len(), lists.0, 2048, lists.1, 32, lists.2, 7)
+    });
+    measure("write_sheet", ALLOWED, &mut tally, || unsafe {
+        let (lists, mut length) = ((bits.as_ptr(), few.as_ptr(), room.as_mut_ptr()), 0);
+        knob_write_sheet(lists.0, 2048, 32, 64, lists.1, 32, 1, 2, 0, 0, 1, lists.2, 35572, &mut length)
+    });
+    measure("salvage", 2 * ALLOWED, &mut tally, || {
+        let end = unsafe { knob_salvage(text.as_ptr(), text.len(), room.as_mut_ptr(), room.len()) };
+        u64::from(end != text.len())
     });
     tally
 }

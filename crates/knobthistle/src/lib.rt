@@ -7,6 +7,7 @@ use margins::turned_words;
 use moving::moved;
 use moving::moved_again;
 use rules::Cap;
+use salvaging::salvage;
 use sheet::thin_sheet;
 use sparsification::Answer;
 use sparsification::sparsify;
@@ -24,6 +25,8 @@ ghost use Rattle.sparsification.specs.Answers.{Thinned};
 ghost use Rattle.rules.specs.declared.Rule.the-variants.{Target, Within};
 ghost use Rattle.margins.specs.Answers.{changeAnswer, turnedAnswer};
 ghost use Rattle.sheet.specs.Answer.{Answered};
+ghost use Rattle.salvaging.specs.Lines.{noLines, after};
+ghost use Rattle.salvaging.specs.Saved.{salvaged, Laid};
 ghost use Rattle.writing.specs.Writing.{WroteFor};
 ghost use Rattle.writing.specs.ReadingBack.{ReadBack};
 ghost use Rattle.moving.specs.Answers.{Listed};
@@ -311,6 +314,14 @@ pub extern "C" fn knob_read_sheet(
         (now (weights .exit)) (now (first .exit)) ⌝ }
 {
     read_sheet(text, matrix, weights, first)
+}
+
+// What is good of a damaged sheet, in a lent buffer: its length, or 0 where it does not fit, which leaves the buffer as it was.
+#[no_mangle]
+pub extern "C" fn knob_salvage(text: &[u8], answer: &mut [u8]) -> usize
+    ensures { λ r. ⌜ Laid (salvaged (after noLines (now (text .entry)))) (now (answer .entry)) r (now (answer .exit)) ⌝ }
+{
+    salvage(text, answer)
 }
 
 // Which word moved: the rows by the magnitude of their changes, and the changes beside them.

@@ -165,4 +165,6 @@ extern "C" {
         first: *mut u64,
         first_length: usize,
     ) -> u64;
+
+    pub fn knob_salvage(text: *const u8, text_length: usize, answer: *mut u8, answer_length: usize) -> usize;
 }

@@ -59,6 +59,7 @@ mod lent;
 mod margins;
 mod moving;
 mod refusal;
+mod salvaging;
 mod sheets;
 pub mod sparsification;
 mod thinning;
@@ -68,6 +69,7 @@ pub use lent::{MAX_COLUMNS, MAX_ROWS};
 pub use margins::{max_margin_change, turned_words};
 pub use moving::{moved, Moved};
 pub use refusal::Refusal;
+pub use salvaging::salvage;
 pub use sheets::{read_sheet, write_sheet, Sheet};
 pub use thinning::{sparsify, sparsify_within, thin, Edition, Job, Rule, Thinned};
 
