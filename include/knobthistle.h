@@ -194,7 +194,7 @@ size_t knob_thin_sheet(const uint8_t *text, size_t text_length, uint8_t *answer,
    0 for a target, 1 for an allowance without a cap, 2 for one with a cap; limit is the target or the cap, and what a rule does not use is
    ignored. Answers 0, or the first of 2 (another rule), 3 (m above 32, n above 64, a limit above 4294967295), 4 (lists of other lengths),
    13 (another edition), 16 (the text is longer than text_length). *length is the length of the text, 0 on a refusal; the bytes of text
-   behind it stay, and all of them on a refusal. KNOB_SHEET_TEXT bytes are enough for every sheet. Uses about 36 KiB of stack. */
+   behind it stay, and all of them on a refusal. KNOB_SHEET_TEXT bytes are enough for every sheet. Uses about 38 KiB of stack. */
 #define KNOB_SHEET_TEXT 35572
 uint64_t knob_write_sheet(const uint64_t *matrix, size_t matrix_length, size_t m, size_t n,
                           const uint64_t *weights, size_t weights_length, uint64_t seed, uint32_t edition,
@@ -211,7 +211,7 @@ uint64_t knob_read_sheet(const uint8_t *text, size_t text_length, uint64_t *matr
    lines of the form, behind the first line with their number in the place of m; then a line `lost` and its number, from 1, for each other
    line after the first; a last piece without a newline is such a line. Where the first line is wrong it is `bad` and 1 alone, and where m
    is above 0 and no column is left `bad` and 2 alone. Any bytes may be given. Returns how many bytes were written to answer; where the
-   text is longer than answer_length, 0, and nothing is written. Uses about 75 KiB of stack. */
+   text is longer than answer_length, 0, and nothing is written. Uses about 72 KiB of stack. */
 size_t knob_salvage(const uint8_t *text, size_t text_length, uint8_t *answer, size_t answer_length);
 
 /* Which word moved: the change of every row when the weights before are replaced by after, both used as given. A change is signed: the

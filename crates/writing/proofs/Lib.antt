@@ -4,3 +4,4 @@ pub mod Loops
 pub mod Faults
 pub mod Whole
 pub mod Back
+pub mod Sole
