@@ -259,6 +259,78 @@ static void sparsify_within(void) {
     }
 }
 
+/* Two items as sparsify and sparsify_within have them above would have other matrices; so these are three of one: the first by a target,
+   the second refused, the third by an allowance with a cap. Their answers are those of the single calls, made first. */
+static void thin_all(void) {
+    const double *matrix = matrix_room, *weights = weights_room;
+    double *output = output_room, *numbers = numbers_room;
+    uint32_t *indices = indices_room;
+    static const uint64_t seeds[] = {3, 5, 4}, limits[] = {7, 0, 12};
+    static const uint32_t editions[] = {1, 2, 2}, rules[] = {0, 0, 2};
+    static const double allowances[] = {0.75, 0.25, 0.03125};
+    const size_t m = 24, n = 5, items = 3, matrix_length = 120, numbers_length = KNOB_NUMBERS(24, 5), indices_length = KNOB_INDICES(24, 5);
+    knob_answer first, third;
+    double expected[72];
+    fill(m, n);
+    for (size_t j = 0; j < m; j++) {
+        weights_room[m + j] = 1.0;
+        weights_room[2 * m + j] = weights_room[m - 1 - j];
+    }
+    for (size_t k = 0; k < 72; k++) expected[k] = number(NOISE);
+    {
+        const size_t weights_length = 24, output_length = 24, target = 7;
+        const uint64_t seed = 3;
+        const uint32_t edition = 1;
+        lend();
+        first = CALL_knob_sparsify;
+        memcpy(expected, output_room, 24 * sizeof(double));
+    }
+    {
+        const size_t weights_length = 24, output_length = 24, cap = 12;
+        const uint64_t seed = 4;
+        const uint32_t edition = 2, capped = 1;
+        const double allowance = 0.03125;
+        const double *weights = weights_room + 48;
+        lend();
+        third = CALL_knob_sparsify_within;
+        memcpy(expected + 48, output_room, 24 * sizeof(double));
+    }
+    {
+        const size_t weights_length = 72, output_length = 72, seeds_length = 3, editions_length = 3, rules_length = 3;
+        const size_t allowances_length = 3, limits_length = 3;
+        lend();
+        const knob_answers all = CALL_knob_thin_all;
+        hold("knob_thin_all, its number", all.number == KNOB_ACCEPTED && first.number == KNOB_ACCEPTED && third.number == KNOB_ACCEPTED);
+        hold("knob_thin_all, its first item", memcmp(&all.items[0], &first, sizeof first) == 0);
+        hold("knob_thin_all, its second item", answers(all.items[1], KNOB_REFUSED_ZERO, 0, 0, 0, 0, 0));
+        hold("knob_thin_all, its third item", memcmp(&all.items[2], &third, sizeof third) == 0);
+        hold("knob_thin_all, past the items", answers(all.items[3], 0, 0, 0, 0, 0, 0) && answers(all.items[63], 0, 0, 0, 0, 0, 0));
+        hold("knob_thin_all", memcmp(output_room, expected, sizeof expected) == 0 && bits(output_room[72]) == NOISE);
+        hold("knob_thin_all, wiped", wiped(numbers_length, indices_length));
+    }
+    { /* No two of these are equal. */
+        const size_t m = 257, n = 5, items = 2, matrix_length = 6, weights_length = 7, output_length = 8, numbers_length = 9;
+        const size_t indices_length = 10, seeds_length = 11, editions_length = 12, rules_length = 13, allowances_length = 14, limits_length = 15;
+        lend();
+        const knob_answers all = CALL_knob_thin_all;
+        hold("knob_thin_all, refused", all.number == KNOB_REFUSED_SIZE && answers(all.items[0], 0, 0, 0, 0, 0, 0) && untouched());
+    }
+    { /* Nor of these, where only the items are too many. */
+        const size_t m = 3, n = 5, items = 65, matrix_length = 6, weights_length = 7, output_length = 8, numbers_length = 9;
+        const size_t indices_length = 10, seeds_length = 11, editions_length = 12, rules_length = 13, allowances_length = 14, limits_length = 15;
+        lend();
+        const knob_answers all = CALL_knob_thin_all;
+        hold("knob_thin_all, too many items", all.number == KNOB_REFUSED_SIZE && untouched());
+    }
+    { /* And of these, too many rows. */
+        const size_t m = 3, n = 4097, items = 2, matrix_length = 6, weights_length = 7, output_length = 8, numbers_length = 9;
+        const size_t indices_length = 10, seeds_length = 11, editions_length = 12, rules_length = 13, allowances_length = 14, limits_length = 15;
+        lend();
+        const knob_answers all = CALL_knob_thin_all;
+        hold("knob_thin_all, too many rows", all.number == KNOB_REFUSED_SIZE && untouched());
+    }
+}
+
 static void discrepancy_coloring(void) {
     const double *matrix = matrix_room;
     double *numbers = numbers_room;
@@ -423,6 +495,7 @@ int main(void) {
     draws();
     sparsify();
     sparsify_within();
+    thin_all();
     discrepancy_coloring();
     margins();
     moved();

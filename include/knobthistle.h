@@ -154,6 +154,31 @@ knob_answer knob_sparsify_within(const double *matrix, size_t matrix_length, siz
                                  double *numbers, size_t numbers_length, uint32_t *indices, size_t indices_length);
 #endif
 
+/* Thins several weight vectors over one matrix in one call. Each of at most KNOB_MAX_ITEMS items has its weights, m of them, item after
+   item in weights, and its job: seeds[k], editions[k], and the rule that rules[k] names, 0 for a target, 1 for an allowance without a cap,
+   2 for an allowance with a cap; limits[k] is the target or the cap, and what a rule does not use is not looked at. Another number names
+   neither target nor cap and is refused by 2. The weights thinned are written to output, item after item.
+
+   The matrix is tested once. The call as a whole is refused first, and then nothing is written and every item's answer is 0: 3 (also for
+   more than KNOB_MAX_ITEMS items), 4 (also for a list of another length than items says: weights and output items*m, the others items),
+   5 (also with no items), 6 and 7, in this order. Else `number` is 0, and each item has exactly the answer and the weights that the single
+   call gives: where that refuses it, by 1, 12, 2, 13, 8 or 9, in this order, its answer has the number and zeros, and its part of output
+   is as it was; the other items go on. The scratch is left zero, also with no items or with refused ones. */
+#define KNOB_MAX_ITEMS 64
+typedef struct {
+    uint64_t number;                    /* 0, or why the call as a whole was refused */
+    knob_answer items[KNOB_MAX_ITEMS];  /* the answer to each item, and zeros past the last */
+} knob_answers;
+
+#if !defined(__aarch64__) /* there, see the end */
+knob_answers knob_thin_all(const double *matrix, size_t matrix_length, size_t m, size_t n, size_t items,
+                           const double *weights, size_t weights_length, const uint64_t *seeds, size_t seeds_length,
+                           const uint32_t *editions, size_t editions_length, const uint32_t *rules, size_t rules_length,
+                           const double *allowances, size_t allowances_length, const uint64_t *limits, size_t limits_length,
+                           double *output, size_t output_length,
+                           double *numbers, size_t numbers_length, uint32_t *indices, size_t indices_length);
+#endif
+
 /* A signing of the columns by 1 and -1 (m of them, written to output) that tries to keep every row's sum of entry times sign small.
    Entries may be any doubles up to 2^32 in magnitude. The seed starts the generator, which draws by edition 1. Answers 0, 3, 4, 6
    or 11. No columns or no rows are fine. */
@@ -231,7 +256,7 @@ uint64_t knob_moved_again(const double *matrix, size_t matrix_length, size_t m, 
 
 #if defined(__aarch64__)
 /* On Arm the archive's calls write a record through an address, their first parameter, which is not how C returns one there. So the
-   three are declared as they are, and each name then stands for a function of the form above. */
+   four are declared as they are, and each name then stands for a function of the form above. */
 knob_colored *knob_discrepancy_coloring(knob_colored *answer, const double *matrix, size_t matrix_length, size_t m, size_t n, uint64_t seed,
                                         int8_t *output, size_t output_length,
                                         double *numbers, size_t numbers_length, uint32_t *indices, size_t indices_length);
@@ -244,6 +269,13 @@ knob_answer *knob_sparsify_within(knob_answer *answer, const double *matrix, siz
                                   double allowance, uint32_t capped, size_t cap,
                                   double *output, size_t output_length,
                                   double *numbers, size_t numbers_length, uint32_t *indices, size_t indices_length);
+
+knob_answers *knob_thin_all(knob_answers *answer, const double *matrix, size_t matrix_length, size_t m, size_t n, size_t items,
+                            const double *weights, size_t weights_length, const uint64_t *seeds, size_t seeds_length,
+                            const uint32_t *editions, size_t editions_length, const uint32_t *rules, size_t rules_length,
+                            const double *allowances, size_t allowances_length, const uint64_t *limits, size_t limits_length,
+                            double *output, size_t output_length,
+                            double *numbers, size_t numbers_length, uint32_t *indices, size_t indices_length);
 
 static inline knob_colored knob_discrepancy_coloring_returned(const double *matrix, size_t matrix_length, size_t m, size_t n, uint64_t seed,
                                                               int8_t *output, size_t output_length,
@@ -273,9 +305,24 @@ static inline knob_answer knob_sparsify_within_returned(const double *matrix, si
                                  output, output_length, numbers, numbers_length, indices, indices_length);
 }
 
+static inline knob_answers knob_thin_all_returned(const double *matrix, size_t matrix_length, size_t m, size_t n, size_t items,
+                                                  const double *weights, size_t weights_length, const uint64_t *seeds, size_t seeds_length,
+                                                  const uint32_t *editions, size_t editions_length,
+                                                  const uint32_t *rules, size_t rules_length,
+                                                  const double *allowances, size_t allowances_length,
+                                                  const uint64_t *limits, size_t limits_length,
+                                                  double *output, size_t output_length,
+                                                  double *numbers, size_t numbers_length, uint32_t *indices, size_t indices_length) {
+    knob_answers answer;
+    return *knob_thin_all(&answer, matrix, matrix_length, m, n, items, weights, weights_length, seeds, seeds_length,
+                          editions, editions_length, rules, rules_length, allowances, allowances_length, limits, limits_length,
+                          output, output_length, numbers, numbers_length, indices, indices_length);
+}
+
 #define knob_discrepancy_coloring knob_discrepancy_coloring_returned
 #define knob_sparsify knob_sparsify_returned
 #define knob_sparsify_within knob_sparsify_within_returned
+#define knob_thin_all knob_thin_all_returned
 #endif
 
 #ifdef __cplusplus

@@ -1,8 +1,10 @@
-// needs: knob_discrepancy_coloring knob_sparsify knob_sparsify_within knob_max_margin_change knob_turned_words knob_thin_sheet knob_moved knob_moved_again knob_write_sheet knob_read_sheet knob_salvage
+// needs: knob_discrepancy_coloring knob_sparsify knob_sparsify_within knob_thin_all knob_max_margin_change knob_turned_words knob_thin_sheet knob_moved knob_moved_again knob_write_sheet knob_read_sheet knob_salvage
 //! The stack that each call uses, at the largest sizes: the stack below a call is painted before it, and what is left of the paint is
 //! counted after it. The lent scratch is all else that a call may use, so this is its whole memory. The calls that answer a sheet
 //! or save one have their scratch on the stack too, and so may use twice as much.
 
+#[path = "shared/batch_call.rs"]
+mod batch_call;
 #[path = "shared/chance.rs"]
 mod chance;
 #[path = "shared/coloring_call.rs"]
@@ -141,6 +143,41 @@ fn all() -> Tally {
             &mut answer, lent, length, m, n, w, m, 1, 1, 0.1, 1, 4, out, m, numbers.0, numbers.1, indices.0, indices.1,
         );
         answer.number
+    });
+    // Its answers are as long as 64 of a single job; they are lent here, where a host in C has them in its own frame.
+    let mut answers = batch_call::Answers::noise();
+    let (all, mut outputs) = (weights.repeat(2), vec![0.0; 2 * m]);
+    measure("thin_all", ALLOWED, &mut tally, || unsafe {
+        let (w, out) = (all.as_ptr(), outputs.as_mut_ptr());
+        let (seeds, editions, rules, allowances, limits) = ([1u64, 2], [1u32, 2], [0u32, 2], [0.0, 0.1], [4u64, 4]);
+        let (numbers, indices) = (numbers_at, indices_at);
+        batch_call::knob_thin_all(
+            &mut answers,
+            lent,
+            length,
+            m,
+            n,
+            2,
+            w,
+            2 * m,
+            seeds.as_ptr(),
+            2,
+            editions.as_ptr(),
+            2,
+            rules.as_ptr(),
+            2,
+            allowances.as_ptr(),
+            2,
+            limits.as_ptr(),
+            2,
+            out,
+            2 * m,
+            numbers.0,
+            numbers.1,
+            indices.0,
+            indices.1,
+        );
+        answers.number + answers.items[0].number + answers.items[1].number
     });
     let (before, after) = (weights.as_ptr(), output.as_ptr());
     measure("max_margin_change", ALLOWED, &mut tally, || unsafe {

@@ -1,2 +1,3 @@
 -- The laws of what a job is refused for.
 pub mod Refusing
+pub mod Whole

@@ -8,14 +8,13 @@ use lib.ListN.{length}
 use lib.Ieee.{Float, lt}
 use lib.Ieee.Scale.{finite}
 use borrow.Author.Tests.{eq-eqb, ne-eqb}
-use Rattle.seq.specs.Sums.{plusZero, at}
-use Rattle.limits.specs.Limits.{tooLarge, scratchShort, bounded}
-use Rattle.seq.specs.Keep.{allTo}
+use Rattle.seq.specs.Sums.{plusZero}
+use Rattle.limits.specs.Limits.{tooLarge, scratchShort, bounded, allFinite}
 use Rattle.ieee.specs.Constants.{one}
 use Rattle.weights.specs.Weights.{l1Of}
 use Rattle.limits.proofs.Sizes.{small}
 use Rattle.rules.specs.Rules.{ruleFault}
-use Rattle.faults.specs.Faults.{editionFault, sizeFault, valueFault, jobFault}
+use Rattle.faults.specs.Faults.{editionFault, roomFault, sizeFault, weightFault, valueFault, jobFault}
 use Rattle.rules.specs.declared.Rule.{Rule}
 
 -- a matrix that is not too large has few entries
@@ -42,24 +41,40 @@ module _ (m n matrix weights output numbers indices : ℕ) where
         unfolding sizeFault
         output-refused h = rw (fine, eq-eqb matrix (m * n) whole, eq-eqb weights m given, ne-eqb output m h)
 
-        module _ (left : output ≡ m) where
-          pub columns-refused : m ≡ 0 → 5 ≡ sizeFault m n matrix weights output numbers indices
-          unfolding sizeFault
-          columns-refused h = rw (fine, eq-eqb matrix (m * n) whole, eq-eqb weights m given, eq-eqb output m left, eq-eqb m 0 h)
+        pub room-left : output ≡ m → {room : ℕ} → room ≡ roomFault m n numbers indices → room ≡ sizeFault m n matrix weights output numbers indices
+        unfolding sizeFault
+        room-left h e = rw (fine, eq-eqb matrix (m * n) whole, eq-eqb weights m given, eq-eqb output m h) e
 
-          module _ (columns : m ≡ 0 → ⊥) where
-            pub rows-refused : n ≡ 0 → 5 ≡ sizeFault m n matrix weights output numbers indices
-            unfolding sizeFault
-            rows-refused h = rw (fine, eq-eqb matrix (m * n) whole, eq-eqb weights m given, eq-eqb output m left, ne-eqb m 0 columns, eq-eqb n 0 h)
+-- what is there at all, and the scratch
+module _ (m n numbers indices : ℕ) where
+  pub columns-refused : m ≡ 0 → 5 ≡ roomFault m n numbers indices
+  columns-refused h = rw (eq-eqb m 0 h)
 
-            module _ (rows : n ≡ 0 → ⊥) where
-              pub scratch-refused : scratchShort m n numbers indices ≡ true → 6 ≡ sizeFault m n matrix weights output numbers indices
-              unfolding sizeFault
-              scratch-refused h = rw (fine, eq-eqb matrix (m * n) whole, eq-eqb weights m given, eq-eqb output m left, ne-eqb m 0 columns, ne-eqb n 0 rows, h)
+  module _ (columns : m ≡ 0 → ⊥) where
+    pub rows-refused : n ≡ 0 → 5 ≡ roomFault m n numbers indices
+    rows-refused h = rw (ne-eqb m 0 columns, eq-eqb n 0 h)
 
-              pub sizes-fine : scratchShort m n numbers indices ≡ false → 0 ≡ sizeFault m n matrix weights output numbers indices
-              unfolding sizeFault
-              sizes-fine h = rw (fine, eq-eqb matrix (m * n) whole, eq-eqb weights m given, eq-eqb output m left, ne-eqb m 0 columns, ne-eqb n 0 rows, h)
+    module _ (rows : n ≡ 0 → ⊥) where
+      pub scratch-refused : scratchShort m n numbers indices ≡ true → 6 ≡ roomFault m n numbers indices
+      scratch-refused h = rw (ne-eqb m 0 columns, ne-eqb n 0 rows, h)
+
+      pub room-fine : scratchShort m n numbers indices ≡ false → 0 ≡ roomFault m n numbers indices
+      room-fine h = rw (ne-eqb m 0 columns, ne-eqb n 0 rows, h)
+
+-- the weights
+module _ (w : List Float) where
+  pub weight-refused : allFinite w ≡ false → 8 ≡ weightFault w
+  weight-refused h = rw h
+
+  module _ (ends : allFinite w ≡ true) where
+    pub empty-refused : lt plusZero (l1Of plusZero w) ≡ false → 9 ≡ weightFault w
+    empty-refused h = rw (ends, h)
+
+    pub endless-refused : lt plusZero (l1Of plusZero w) ≡ true → finite (l1Of plusZero w) ≡ false → 9 ≡ weightFault w
+    endless-refused h g = rw (ends, h, g)
+
+    pub weights-fine : lt plusZero (l1Of plusZero w) ≡ true → finite (l1Of plusZero w) ≡ true → 0 ≡ weightFault w
+    weights-fine h g = rw (ends, h, g)
 
 -- the values
 module _ (u w : List Float) where
@@ -67,23 +82,9 @@ module _ (u w : List Float) where
   unfolding valueFault
   entry-refused h = rw h
 
-  module _ (entries : bounded one u ≡ true) where
-    pub weight-refused : allTo (λ j. finite (at w j)) (length w) ≡ false → 8 ≡ valueFault u w
-    unfolding valueFault
-    weight-refused h = rw (entries, h)
-
-    module _ (ends : allTo (λ j. finite (at w j)) (length w) ≡ true) where
-      pub empty-refused : lt plusZero (l1Of plusZero w) ≡ false → 9 ≡ valueFault u w
-      unfolding valueFault
-      empty-refused h = rw (entries, ends, h)
-
-      pub endless-refused : lt plusZero (l1Of plusZero w) ≡ true → finite (l1Of plusZero w) ≡ false → 9 ≡ valueFault u w
-      unfolding valueFault
-      endless-refused h g = rw (entries, ends, h, g)
-
-      pub values-fine : lt plusZero (l1Of plusZero w) ≡ true → finite (l1Of plusZero w) ≡ true → 0 ≡ valueFault u w
-      unfolding valueFault
-      values-fine h g = rw (entries, ends, h, g)
+  pub weights-left : bounded one u ≡ true → {left : ℕ} → left ≡ weightFault w → left ≡ valueFault u w
+  unfolding valueFault
+  weights-left h e = rw h e
 
 -- the first of them that is not 0
 module _ (rule : Rule) (edition : ℕ) (u : List Float) (m n : ℕ) (w : List Float) (output numbers indices : ℕ)

@@ -1,14 +1,41 @@
-// What a job is refused for before any work is done.
+// What a job is refused for before any work is done, and what a call for several jobs on one matrix is, its items. And the rule that a host
+// names by a number, since a number that names none is refused.
 use ieee::is_finite;
 use limits::all_bounded;
 use limits::all_finite;
 use limits::scratch_short;
 use limits::too_large;
+use rules::Cap;
 use rules::Rule;
 use rules::rule_fault;
 use weights::l1;
 ghost use mathlib.Core.Path.{_≡_};
-ghost use Rattle.faults.specs.Faults.{editionFault, sizeFault, valueFault, jobFault};
+ghost use Prim.Native.Nat.{_≤_};
+ghost use Rattle.faults.specs.Faults.{ruleNamed, editionFault, roomFault, sizeFault, weightFault, valueFault, jobFault};
+ghost use Rattle.faults.specs.Faults.{listsOff, wholeFault, itemFault};
+
+// The rule that a host names by a number: 0 for a target, 1 for an allowance, 2 for an allowance with a cap. Another number names neither
+// target nor cap, and is refused as a target of 0 is.
+pub fn named_rule(number: u32, allowance: f64, limit: usize) -> Rule
+    ensures { λ r. ⌜ r ≡ ruleNamed number allowance limit ⌝ }
+{
+    if number == 0 {
+        return Rule::Target(limit);
+    }
+    if number == 1 {
+        return Rule::Within {
+            allowance,
+            cap: Cap::Absent,
+        };
+    }
+    if number == 2 {
+        return Rule::Within {
+            allowance,
+            cap: Cap::AtMost(limit),
+        };
+    }
+    Rule::Target(0)
+}
 
 // 13 where the edition is neither 1 nor 2.
 fn edition_fault(edition: u32) -> u64
@@ -18,6 +45,24 @@ fn edition_fault(edition: u32) -> u64
         return 0;
     }
     if edition == 2 { 0 } else { 13 }
+}
+
+// 5 and 6, of what is there at all and of the scratch.
+fn room_fault(m: usize, n: usize, numbers: usize, indices: usize) -> u64
+    requires { ⌜ (m ≤ 256) × (n ≤ 4096) ⌝ }
+    ensures { λ r. ⌜ r ≡ roomFault m n numbers indices ⌝ }
+{
+    if m == 0 {
+        return 5;
+    }
+    if n == 0 {
+        return 5;
+    }
+    if scratch_short(m, n, numbers, indices) {
+        6
+    } else {
+        0
+    }
 }
 
 // 3 to 6, of the sizes.
@@ -44,17 +89,21 @@ fn size_fault(
     if output != m {
         return 4;
     }
-    if m == 0 {
-        return 5;
+    room_fault(m, n, numbers, indices)
+}
+
+// 8 and 9, of the weights.
+fn weight_fault(weights: &[f64]) -> u64
+    ensures { λ r. ⌜ r ≡ weightFault (now (weights .entry)) ⌝ }
+{
+    if !all_finite(weights) {
+        return 8;
     }
-    if n == 0 {
-        return 5;
+    let sum = l1(weights);
+    if !(sum > 0.0) {
+        return 9;
     }
-    if scratch_short(m, n, numbers, indices) {
-        6
-    } else {
-        0
-    }
+    if is_finite(sum) { 0 } else { 9 }
 }
 
 // 7 to 9, of the values.
@@ -64,14 +113,7 @@ fn value_fault(matrix: &[f64], weights: &[f64]) -> u64
     if !all_bounded(matrix, 1.0) {
         return 7;
     }
-    if !all_finite(weights) {
-        return 8;
-    }
-    let sum = l1(weights);
-    if !(sum > 0.0) {
-        return 9;
-    }
-    if is_finite(sum) { 0 } else { 9 }
+    weight_fault(weights)
 }
 
 // The first number that applies, or 0.
@@ -101,4 +143,95 @@ pub fn job_fault(
         return third;
     }
     value_fault(matrix, weights)
+}
+
+// Whether a list of a call for several items has another length than items, m and n say.
+fn lists_off(
+    items: usize,
+    m: usize,
+    n: usize,
+    matrix: usize,
+    weights: usize,
+    seeds: usize,
+    editions: usize,
+    rules: usize,
+    allowances: usize,
+    limits: usize,
+    output: usize,
+) -> bool
+    requires { ⌜ (items ≤ 64) × ((m ≤ 256) × (n ≤ 4096)) ⌝ }
+    ensures { λ r. ⌜ r ≡ listsOff items m n matrix weights seeds editions rules allowances limits output ⌝ }
+{
+    let entries = m * n;
+    let places = items * m;
+    (matrix != entries)
+        | (weights != places)
+        | (seeds != items)
+        | (editions != items)
+        | (rules != items)
+        | (allowances != items)
+        | (limits != items)
+        | (output != places)
+}
+
+// 3 to 7, of such a call as a whole.
+pub fn whole_fault(
+    items: usize,
+    matrix: &[f64],
+    m: usize,
+    n: usize,
+    weights: usize,
+    seeds: usize,
+    editions: usize,
+    rules: usize,
+    allowances: usize,
+    limits: usize,
+    output: usize,
+    numbers: usize,
+    indices: usize,
+) -> u64
+    ensures { λ r. ⌜ r
+        ≡ wholeFault items (now (matrix .entry)) m n weights seeds editions rules allowances limits output numbers indices ⌝ }
+{
+    if items > 64 {
+        return 3;
+    }
+    if too_large(m, n) {
+        return 3;
+    }
+    if lists_off(
+        items,
+        m,
+        n,
+        matrix.len(),
+        weights,
+        seeds,
+        editions,
+        rules,
+        allowances,
+        limits,
+        output,
+    ) {
+        return 4;
+    }
+    let room = room_fault(m, n, numbers, indices);
+    if room != 0 {
+        return room;
+    }
+    if all_bounded(matrix, 1.0) { 0 } else { 7 }
+}
+
+// What an item of a call that is not refused as a whole is refused for.
+pub fn item_fault(rule: Rule, edition: u32, weights: &[f64]) -> u64
+    ensures { λ r. ⌜ r ≡ itemFault rule edition (now (weights .entry)) ⌝ }
+{
+    let first = rule_fault(rule);
+    if first != 0 {
+        return first;
+    }
+    let second = edition_fault(edition);
+    if second != 0 {
+        return second;
+    }
+    weight_fault(weights)
 }

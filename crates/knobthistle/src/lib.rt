@@ -1,4 +1,6 @@
 // The C interface: nothing but exported calls. include/knobthistle.h declares them.
+use batch::Answers;
+use batch::thin_all;
 use discrepancy::Colored;
 use discrepancy::discrepancy_coloring;
 use draw::SplitMix64;
@@ -22,6 +24,8 @@ ghost use Rattle.draw.specs.Gaussian.{lnOfDraw, cosOfDraw, gaussianOf, afterGau
 ghost use Rattle.discrepancy.specs.Discrepancy.{DiscrepancyColored};
 ghost use Rattle.knobthistle.specs.Caps.{capOf};
 ghost use Rattle.sparsification.specs.Answers.{Thinned};
+ghost use Rattle.batch.specs.Items.{listed};
+ghost use Rattle.batch.specs.All.{ThinnedAll};
 ghost use Rattle.rules.specs.declared.Rule.the-variants.{Target, Within};
 ghost use Rattle.margins.specs.Answers.{changeAnswer, turnedAnswer};
 ghost use Rattle.sheet.specs.Answer.{Answered};
@@ -254,6 +258,44 @@ pub extern "C" fn knob_sparsify_within(
         edition,
         allowance,
         cap_of(capped, cap),
+        output,
+        numbers,
+        indices,
+    )
+}
+
+// Thins each item as its job says, all on one matrix.
+#[no_mangle]
+pub extern "C" fn knob_thin_all(
+    matrix: &[f64],
+    m: usize,
+    n: usize,
+    items: usize,
+    weights: &[f64],
+    seeds: &[u64],
+    editions: &[u32],
+    rules: &[u32],
+    allowances: &[f64],
+    limits: &[u64],
+    output: &mut [f64],
+    numbers: &mut [f64],
+    indices: &mut [u32],
+) -> Answers
+    ensures { λ r. ⌜ ThinnedAll (now (matrix .entry)) m n items (listed (now (weights .entry)) (now (seeds .entry)) (now (editions .entry))
+        (now (rules .entry)) (now (allowances .entry)) (now (limits .entry))) (now (output .entry)) (now (numbers .entry))
+        (now (indices .entry)) r (now (output .exit)) (now (numbers .exit)) (now (indices .exit)) ⌝ }
+{
+    thin_all(
+        matrix,
+        m,
+        n,
+        items,
+        weights,
+        seeds,
+        editions,
+        rules,
+        allowances,
+        limits,
         output,
         numbers,
         indices,

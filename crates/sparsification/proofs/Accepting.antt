@@ -24,11 +24,7 @@ use Rattle.sparsification.specs.declared.Answer.{Answer}
 use Rattle.rules.specs.declared.Rule.{Rule}
 use Rattle.seq.proofs.Choosing.{neither, both, never, shown}
 use Rattle.draw.specs.declared.SplitMix64.{SplitMix64}
-
--- the first of two numbers that is not 0
-pub no-fault : (a b : ℕ) → orElse a b ≡ 0 → (a ≡ 0) × (b ≡ 0)
-no-fault zero b h = (refl, h)
-no-fault (suc a) b h = absurd (let g : suc a ≡ 0 = rw (eqb·suc-zero a) at h in omega arith)
+use Rattle.faults.proofs.Whole.{no-fault}
 
 -- a refusal's number is not 0
 answered : (fault : ℕ) (a : Answer) → pick (eqb fault 0) a (refusal fault) .number ≡ 0 → fault ≡ 0

@@ -49,7 +49,7 @@ pub struct Answer {
 }
 
 // A refusal: its number, and zeros.
-fn refused(number: u64) -> Answer
+pub fn refused(number: u64) -> Answer
     ensures { λ r. ⌜ r ≡ refusal number ⌝ }
 {
     Answer {
@@ -117,7 +117,7 @@ fn thin_on(
 }
 
 // Normalizes the weights of a job that has no fault, and thins from there. start is room for them.
-fn thin_sound(
+pub fn thin_sound(
     matrix: &[f64],
     n: usize,
     weights: &[f64],

@@ -5,7 +5,7 @@
 
 /// The archive's answer to a job.
 #[repr(C)]
-#[derive(Default)]
+#[derive(Clone, Copy, Default)]
 pub struct Answer {
     pub number: u64,
     pub stage: u64,
@@ -15,6 +15,16 @@ pub struct Answer {
     pub sweeps: u64,
     pub path_nonzeros: [u64; 9],
     pub path_change: [f64; 9],
+}
+
+/// The most items that one call takes.
+pub const MAX_ITEMS: usize = 64;
+
+/// The archive's answer to a call for several items.
+#[repr(C)]
+pub struct Answers {
+    pub number: u64,
+    pub items: [Answer; MAX_ITEMS],
 }
 
 /// The answer to a colouring.
@@ -66,6 +76,33 @@ extern "C" {
         indices: *mut u32,
         indices_length: usize,
     ) -> *mut Answer;
+
+    pub fn knob_thin_all(
+        answer: *mut Answers,
+        matrix: *const f64,
+        matrix_length: usize,
+        m: usize,
+        n: usize,
+        items: usize,
+        weights: *const f64,
+        weights_length: usize,
+        seeds: *const u64,
+        seeds_length: usize,
+        editions: *const u32,
+        editions_length: usize,
+        rules: *const u32,
+        rules_length: usize,
+        allowances: *const f64,
+        allowances_length: usize,
+        limits: *const u64,
+        limits_length: usize,
+        output: *mut f64,
+        output_length: usize,
+        numbers: *mut f64,
+        numbers_length: usize,
+        indices: *mut u32,
+        indices_length: usize,
+    ) -> *mut Answers;
 
     pub fn knob_discrepancy_coloring(
         answer: *mut Colored,

@@ -39,8 +39,9 @@
 //! [`sparsify`], [`sparsify_within`], [`max_margin_change`] and [`discrepancy_coloring`] have the names, arguments and, given the same
 //! draws, the values of the module `sparsification` of miniboosts; where that panics they give a [`Refusal`]. Their values stay plain
 //! weights, not records, so that code written for that module goes on working behind a `?`. [`thin`] gives the whole answer: weights,
-//! stage, nonzeros, change, how much was drawn and swept, and the path. Where the panics are wanted too, the module [`sparsification`] has
-//! the very signatures, and a host changes its `use` line alone.
+//! stage, nonzeros, change, how much was drawn and swept, and the path, and [`thin_all`] does so for up to [`MAX_ITEMS`] weight vectors over
+//! the same columns. Where the panics are wanted too, the module [`sparsification`] has the very signatures, and a host changes its `use`
+//! line alone.
 //!
 //! The draws are not the same: that module takes the platform's logarithm and cosine, this library one rule for every machine. Beside
 //! that module as it ships, of thinnings to 4 weights with entries 1 and -1, 34 of 20,000 with 32 columns and 64 rows came out otherwise
@@ -53,6 +54,7 @@
 //! another place is named by the environment variable `KNOBTHISTLE_ARCHIVE`: its path or its folder, from the root or from this crate's
 //! folder. It must be one for the machine: x86-64, or Arm as oracle/host-archive writes it.
 
+mod all;
 mod archive;
 mod coloring;
 mod lent;
@@ -64,6 +66,8 @@ mod sheets;
 pub mod sparsification;
 mod thinning;
 
+pub use all::{thin_all, Item};
+pub use archive::MAX_ITEMS;
 pub use coloring::{color, discrepancy_coloring, Coloring};
 pub use lent::{MAX_COLUMNS, MAX_ROWS};
 pub use margins::{max_margin_change, turned_words};

@@ -105,6 +105,11 @@ pub fn thin(columns: &[Vec<f64>], weights: &[f64], job: Job) -> Result<Thinned, 
             ),
         }
     };
+    answered(answer, output)
+}
+
+/// An answer of the archive, with the weights that it wrote.
+pub(crate) fn answered(answer: Answer, output: Vec<f64>) -> Result<Thinned, Refusal> {
     Refusal::check(answer.number)?;
     let stage = answer.stage as usize;
     let path = answer.path_nonzeros.iter().zip(answer.path_change).take(stage + 1).map(|(left, change)| (*left as usize, change)).collect();

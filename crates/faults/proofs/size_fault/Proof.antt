@@ -1,6 +1,5 @@
 -- `faults::size_fault` meets its contract: each way out is one of the laws of Refusing, and the sizes that are left are small enough for the products.
-use Rattle.faults.proofs.Refusing.{few-entries, large-refused, matrix-refused, weights-refused, output-refused, columns-refused}
-use Rattle.faults.proofs.Refusing.{rows-refused, scratch-refused, sizes-fine}
+use Rattle.faults.proofs.Refusing.{few-entries, large-refused, matrix-refused, weights-refused, output-refused, room-left}
 use Rattle.limits.proofs.Sizes.{small}
 use borrow.Author.Needs.{needs}
 use mathlib.Core.Path.{sym, _∙_}
@@ -48,67 +47,25 @@ returns-4 c =
     (at-start .args .output) (at-start .args .numbers) (at-start .args .indices)
     (sym (at-too-large .too-large .ensures) ∙ at-if1 .if1 .left) (at-if2 .if2 .left) (c .before .if3 .left) (c .if4 .taken)
 
-returns-5 : tie.Need-returns-5
-returns-5 c =
-    let at-if3 = c .before .before in
-    let at-if2 = at-if3 .before in
-    let at-if1 = at-if2 .before in
-    let at-too-large = at-if1 .before in
-    let at-start = at-too-large .before in
-    columns-refused (at-start .args .m) (at-start .args .n) (at-start .args .matrix) (at-start .args .weights)
-    (at-start .args .output) (at-start .args .numbers) (at-start .args .indices)
-    (sym (at-too-large .too-large .ensures) ∙ at-if1 .if1 .left) (at-if2 .if2 .left) (at-if3 .if3 .left)
-    (c .before .if4 .left) (c .if5 .taken)
-
-returns-6 : tie.Need-returns-6
-returns-6 c =
-    let at-if4 = c .before .before in
-    let at-if3 = at-if4 .before in
-    let at-if2 = at-if3 .before in
-    let at-if1 = at-if2 .before in
-    let at-too-large = at-if1 .before in
-    let at-start = at-too-large .before in
-    rows-refused (at-start .args .m) (at-start .args .n) (at-start .args .matrix) (at-start .args .weights)
-    (at-start .args .output) (at-start .args .numbers) (at-start .args .indices)
-    (sym (at-too-large .too-large .ensures) ∙ at-if1 .if1 .left) (at-if2 .if2 .left) (at-if3 .if3 .left) (at-if4 .if4 .left)
-    (c .before .if5 .left) (c .if6 .taken)
-
-scratch-short-requires : tie.Need-scratch-short-requires
-scratch-short-requires c κs =
-    let at-if1 = c .before .before .before .before .before in
+room-fault-requires : tie.Need-room-fault-requires
+room-fault-requires c κs =
+    let at-if1 = c .before .before .before in
     let at-too-large = at-if1 .before in
     let at-start = at-too-large .before in
     let s = small (at-start .args .m) (at-start .args .n) (sym (at-too-large .too-large .ensures) ∙ at-if1 .if1 .left) in (s .columns, s .rows)
 
-returns-7 : tie.Need-returns-7
-returns-7 c =
-    let at-if6 = c .before .before in
-    let at-if5 = at-if6 .before in
-    let at-if4 = at-if5 .before in
+returns-5 : tie.Need-returns-5
+returns-5 c =
+    let at-if4 = c .before in
     let at-if3 = at-if4 .before in
     let at-if2 = at-if3 .before in
     let at-if1 = at-if2 .before in
     let at-too-large = at-if1 .before in
     let at-start = at-too-large .before in
-    scratch-refused (at-start .args .m) (at-start .args .n) (at-start .args .matrix) (at-start .args .weights)
+    room-left (at-start .args .m) (at-start .args .n) (at-start .args .matrix) (at-start .args .weights)
     (at-start .args .output) (at-start .args .numbers) (at-start .args .indices)
     (sym (at-too-large .too-large .ensures) ∙ at-if1 .if1 .left) (at-if2 .if2 .left) (at-if3 .if3 .left) (at-if4 .if4 .left)
-    (at-if5 .if5 .left) (at-if6 .if6 .left) (sym (c .before .scratch-short .ensures) ∙ c .if7 .taken)
-
-returns-8 : tie.Need-returns-8
-returns-8 c =
-    let at-if6 = c .before .before in
-    let at-if5 = at-if6 .before in
-    let at-if4 = at-if5 .before in
-    let at-if3 = at-if4 .before in
-    let at-if2 = at-if3 .before in
-    let at-if1 = at-if2 .before in
-    let at-too-large = at-if1 .before in
-    let at-start = at-too-large .before in
-    sizes-fine (at-start .args .m) (at-start .args .n) (at-start .args .matrix) (at-start .args .weights) (at-start .args .output)
-    (at-start .args .numbers) (at-start .args .indices) (sym (at-too-large .too-large .ensures) ∙ at-if1 .if1 .left)
-    (at-if2 .if2 .left) (at-if3 .if3 .left) (at-if4 .if4 .left) (at-if5 .if5 .left) (at-if6 .if6 .left)
-    (sym (c .before .scratch-short .ensures) ∙ c .if7 .left)
+    (c .room-fault .ensures)
 
 pub size-fault-spec : {M : Type 1} → statement M
 size-fault-spec =
@@ -120,8 +77,5 @@ size-fault-spec =
     returns-2
     returns-3
     returns-4
-    returns-5
-    returns-6
-    scratch-short-requires
-    returns-7
-    returns-8)
+    room-fault-requires
+    returns-5)

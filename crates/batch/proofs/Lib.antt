@@ -1,0 +1,7 @@
+-- The laws of a call for several items.
+pub mod Joining
+pub mod Turns
+pub mod Closing
+pub mod Singles
+pub mod SoleAll
+pub mod AmongItems

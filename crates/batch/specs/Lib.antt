@@ -1,0 +1,4 @@
+-- Several jobs on one matrix, in one call.
+pub mod Items
+pub mod All
+pub mod Between

@@ -1,0 +1,115 @@
+//! Several ensembles over one matrix, in one call.
+
+use crate::archive::{knob_thin_all, Answer, Answers, MAX_ITEMS};
+use crate::lent::{Matrix, Scratch};
+use crate::thinning::{answered, Job, Rule, Thinned};
+use crate::Refusal;
+use std::thread;
+
+/// An item of [`thin_all`]: an ensemble's weights, and its job.
+#[derive(Clone, Copy, Debug)]
+pub struct Item<'a> {
+    pub weights: &'a [f64],
+    pub job: Job,
+}
+
+/// Thins each item as [`thin`](crate::thin) does, all over the same columns, at most [`MAX_ITEMS`] of them. The columns are tested once a
+/// thread, and not once an item. The answers stand in the items' order; one that is refused touches no other. With more than one of
+/// `threads` the items are spread over as many, each with scratch of its own, and the answers are the same.
+///
+/// The call as a whole is refused by 3, also for more than [`MAX_ITEMS`] items, 4, also where an item has not one weight for each
+/// column, 5, also with no items, and 7.
+///
+/// ```
+/// use knobthistle::{thin, thin_all, Edition, Item, Job, Refusal, Rule};
+///
+/// let columns = vec![vec![1.0, 1.0], vec![1.0, -1.0]];
+/// let job = Job { seed: 0, edition: Edition::First, rule: Rule::Within { allowance: 0.5, cap: None } };
+/// let items = [Item { weights: &[1.0, 3.0], job }, Item { weights: &[0.0, 0.0], job }, Item { weights: &[3.0, 1.0], job }];
+/// let answers = thin_all(&columns, &items, 2).unwrap();
+/// assert_eq!(answers[0], thin(&columns, items[0].weights, job));
+/// assert_eq!(answers[1], Err(Refusal::Sum));
+/// assert_eq!(answers[2].as_ref().unwrap().weights, [1.0, 0.0]);
+/// ```
+pub fn thin_all(columns: &[Vec<f64>], items: &[Item], threads: usize) -> Result<Vec<Result<Thinned, Refusal>>, Refusal> {
+    let matrix = Matrix::new(columns);
+    let share = items.len().div_ceil(threads.max(1));
+    // What is refused for its items is refused whole, and so is not spread.
+    if share == items.len() || !fit(&matrix, items) {
+        return one_call(&matrix, items);
+    }
+    let parts: Vec<_> = thread::scope(|scope| {
+        let workers: Vec<_> = items.chunks(share).map(|part| scope.spawn(|| one_call(&matrix, part))).collect();
+        workers.into_iter().map(|worker| worker.join().expect("no call panics")).collect()
+    });
+    let mut answers = Vec::with_capacity(items.len());
+    for part in parts {
+        answers.extend(part?);
+    }
+    Ok(answers)
+}
+
+/// Not too many, and each with one weight for each column.
+fn fit(matrix: &Matrix, items: &[Item]) -> bool {
+    items.len() <= MAX_ITEMS && items.iter().all(|item| item.weights.len() == matrix.m)
+}
+
+/// The number, the allowance and the limit by which the archive has a rule; what a rule does not use is 0.
+fn named(rule: Rule) -> (u32, f64, u64) {
+    match rule {
+        Rule::Target(target) => (0, 0.0, target as u64),
+        Rule::Within { allowance, cap: None } => (1, allowance, 0),
+        Rule::Within { allowance, cap: Some(cap) } => (2, allowance, cap as u64),
+    }
+}
+
+/// One call of the archive. Items that do not fit are not copied: it is lent weights of another length than it has to have, and says
+/// itself which number is the lowest.
+fn one_call(matrix: &Matrix, items: &[Item]) -> Result<Vec<Result<Thinned, Refusal>>, Refusal> {
+    let (m, many) = (matrix.m, items.len());
+    let weights: Vec<f64> = if fit(matrix, items) {
+        items.iter().flat_map(|item| item.weights).copied().collect()
+    } else {
+        vec![0.0; if m.wrapping_mul(many) == 1 { 2 } else { 1 }]
+    };
+    let seeds: Vec<u64> = items.iter().map(|item| item.job.seed).collect();
+    let editions: Vec<u32> = items.iter().map(|item| item.job.edition as u32).collect();
+    let rules: Vec<(u32, f64, u64)> = items.iter().map(|item| named(item.job.rule)).collect();
+    let numbers_of: Vec<u32> = rules.iter().map(|rule| rule.0).collect();
+    let allowances: Vec<f64> = rules.iter().map(|rule| rule.1).collect();
+    let limits: Vec<u64> = rules.iter().map(|rule| rule.2).collect();
+    let mut output = vec![0.0; weights.len()];
+    let mut scratch = Scratch::new(matrix);
+    let mut answers = Answers { number: 0, items: [Answer::default(); MAX_ITEMS] };
+    // Sound for the reasons that `thin` gives.
+    unsafe {
+        knob_thin_all(
+            &mut answers,
+            matrix.entries.as_ptr(),
+            matrix.entries.len(),
+            m,
+            matrix.n,
+            many,
+            weights.as_ptr(),
+            weights.len(),
+            seeds.as_ptr(),
+            seeds.len(),
+            editions.as_ptr(),
+            editions.len(),
+            numbers_of.as_ptr(),
+            numbers_of.len(),
+            allowances.as_ptr(),
+            allowances.len(),
+            limits.as_ptr(),
+            limits.len(),
+            output.as_mut_ptr(),
+            output.len(),
+            scratch.numbers.as_mut_ptr(),
+            scratch.numbers.len(),
+            scratch.indices.as_mut_ptr(),
+            scratch.indices.len(),
+        );
+    }
+    Refusal::check(answers.number)?;
+    Ok((0..many).map(|k| answered(answers.items[k], output[k * m..(k + 1) * m].to_vec())).collect())
+}
