@@ -104,6 +104,7 @@ static void fill(size_t m, size_t n) {
 }
 
 static void draws(void) {
+    hold("knob_version", CALL_knob_version == KNOB_VERSION);
     {
         uint64_t ours = 0x61C8864680B583EBu, *state = &ours; /* C10 */
         hold("knob_uniform", CALL_knob_uniform == 1.0 / 18014398509481984.0 && ours == 0);

@@ -19,6 +19,11 @@
 extern "C" {
 #endif
 
+/* The version of this header, and that of the archive: of its three figures, 1000000 times the first, 1000 times the second, and the
+   third. */
+#define KNOB_VERSION 1000
+uint64_t knob_version(void);
+
 /* The generator is SplitMix64. Its state is one 64-bit number, any number: start it at a seed of your choice. An output is a 64-bit
    number; making one adds 0x9E3779B97F4A7C15 to the state, modulo 2^64. The state must not be null. */
 

@@ -1,5 +1,5 @@
 //! Finds the archive and links it. KNOBTHISTLE_ARCHIVE is the archive's path, or the folder that it is in; without it the archive is the
-//! one that `rt staticlib knobthistle` writes in this repository.
+//! one of a release, beside this crate, or the one that `rt staticlib knobthistle` or host/archive writes in this repository.
 
 use std::env;
 use std::fs;
@@ -10,6 +10,11 @@ const NAME: &str = "libknobthistle.a";
 
 fn main() {
     println!("cargo:rerun-if-env-changed=KNOBTHISTLE_ARCHIVE");
+    // The README's example is a test of this crate where the README is.
+    println!("cargo:rustc-check-cfg=cfg(in_repository)");
+    if here().join("../../README.md").is_file() && here().join("../../crates.txt").is_file() {
+        println!("cargo:rustc-cfg=in_repository");
+    }
     let target = |word: &str| env::var(format!("CARGO_CFG_TARGET_{word}")).unwrap_or_default();
     let (machine, system) = (target("ARCH"), target("OS"));
     if system != "linux" || (machine != "x86_64" && machine != "aarch64") {
@@ -35,18 +40,19 @@ fn archive(machine: &str) -> PathBuf {
         }
         return archive;
     }
-    if machine != "x86_64" {
-        fail("`rt staticlib` writes for x86-64 alone: let oracle/host-archive write an archive, and name it in KNOBTHISTLE_ARCHIVE");
+    // `rt staticlib` writes for x86-64 alone; host/archive writes for the machine that it runs on.
+    let mut places = vec!["../lib", "../../target/lib"];
+    if machine == "x86_64" {
+        places.insert(1, "../../target/staticlib");
     }
-    let here = PathBuf::from(env::var_os("CARGO_MANIFEST_DIR").expect("cargo names the crate's folder"));
-    let archive = here.join("../../target/staticlib").join(NAME);
-    if !archive.is_file() {
-        fail(&format!(
-            "there is no {}: run `rt staticlib knobthistle` in the repository, or name an archive in KNOBTHISTLE_ARCHIVE",
-            archive.display()
-        ));
-    }
-    archive
+    let found = places.iter().map(|place| here().join(place).join(NAME)).find(|archive| archive.is_file());
+    found.unwrap_or_else(|| {
+        fail("there is no libknobthistle.a: run host/archive in the repository, or name an archive in KNOBTHISTLE_ARCHIVE")
+    })
+}
+
+fn here() -> PathBuf {
+    PathBuf::from(env::var_os("CARGO_MANIFEST_DIR").expect("cargo names the crate's folder"))
 }
 
 fn fail(why: &str) -> ! {

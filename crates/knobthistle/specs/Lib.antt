@@ -1,4 +1,5 @@
 -- What the C interface adds to the definitions.
+pub mod Version
 pub mod Caps
 pub mod SheetBytes
 pub mod Cases

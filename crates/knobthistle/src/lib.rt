@@ -22,6 +22,7 @@ ghost use Rattle.draw.specs.SplitMix.{seeded, afterOf};
 ghost use Rattle.draw.specs.Uniform.{uniformIn};
 ghost use Rattle.draw.specs.Gaussian.{lnOfDraw, cosOfDraw, gaussianOf, afterGaussian};
 ghost use Rattle.discrepancy.specs.Discrepancy.{DiscrepancyColored};
+ghost use Rattle.knobthistle.specs.Version.{versionNumber};
 ghost use Rattle.knobthistle.specs.Caps.{capOf};
 ghost use Rattle.sparsification.specs.Answers.{Thinned};
 ghost use Rattle.batch.specs.Items.{listed};
@@ -34,6 +35,14 @@ ghost use Rattle.salvaging.specs.Saved.{salvaged, Laid};
 ghost use Rattle.writing.specs.Writing.{WroteFor};
 ghost use Rattle.writing.specs.ReadingBack.{ReadBack};
 ghost use Rattle.moving.specs.Answers.{Listed};
+
+// The version of the library: that of the file VERSION.
+#[no_mangle]
+pub extern "C" fn knob_version() -> u64
+    ensures { λ r. ⌜ r ≡ versionNumber 0 1 0 ⌝ }
+{
+    1000
+}
 
 // The next uniform draw by an edition; the state moves on.
 fn next_uniform(state: &mut u64, edition: u32) -> f64

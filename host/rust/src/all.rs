@@ -9,7 +9,9 @@ use std::thread;
 /// An item of [`thin_all`]: an ensemble's weights, and its job.
 #[derive(Clone, Copy, Debug)]
 pub struct Item<'a> {
+    /// A weight for each column.
     pub weights: &'a [f64],
+    /// Its seed, its edition and its rule.
     pub job: Job,
 }
 
@@ -81,7 +83,7 @@ fn one_call(matrix: &Matrix, items: &[Item]) -> Result<Vec<Result<Thinned, Refus
     let mut output = vec![0.0; weights.len()];
     let mut scratch = Scratch::new(matrix);
     let mut answers = Answers { number: 0, items: [Answer::default(); MAX_ITEMS] };
-    // Sound for the reasons that `thin` gives.
+    // SAFETY: for the reasons that `thin_matrix` gives.
     unsafe {
         knob_thin_all(
             &mut answers,

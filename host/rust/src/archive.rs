@@ -37,6 +37,17 @@ pub struct Colored {
 }
 
 extern "C" {
+    pub fn knob_version() -> u64;
+    pub fn knob_uniform(state: *mut u64) -> f64;
+    pub fn knob_gaussian(state: *mut u64) -> f64;
+    pub fn knob_sqrt(x: f64) -> f64;
+    pub fn knob_log_draw(word: u64) -> f64;
+    pub fn knob_cos_draw(word: u64) -> f64;
+    pub fn knob_uniform_2(state: *mut u64) -> f64;
+    pub fn knob_gaussian_2(state: *mut u64) -> f64;
+    pub fn knob_log_draw_2(word: u64) -> f64;
+    pub fn knob_cos_draw_2(word: u64) -> f64;
+
     pub fn knob_sparsify(
         answer: *mut Answer,
         matrix: *const f64,
@@ -204,4 +215,6 @@ extern "C" {
     ) -> u64;
 
     pub fn knob_salvage(text: *const u8, text_length: usize, answer: *mut u8, answer_length: usize) -> usize;
+
+    pub fn knob_thin_sheet(text: *const u8, text_length: usize, answer: *mut u8, answer_length: usize) -> usize;
 }

@@ -1,11 +1,14 @@
 //! The colouring of a matrix's columns.
 
 use crate::archive::{knob_discrepancy_coloring, Colored};
-use crate::lent::{Matrix, Scratch};
+use crate::lent::{Matrix, Scratch, MAX_COLUMNS};
 use crate::Refusal;
 
-/// A signing of the columns by 1 and -1 that tries to keep every row's sum of entry times sign small. Refusals 3, 4 and 11; no columns
-/// or no rows are fine.
+/// A signing of the columns by 1 and -1 that tries to keep every row's sum of entry times sign small. No columns or no rows are fine.
+///
+/// # Errors
+///
+/// [`Refusal::Size`], [`Refusal::Length`] and [`Refusal::ColoringEntry`].
 ///
 /// ```
 /// let columns = vec![vec![1.0, -0.5, 0.25]; 2];
@@ -27,13 +30,21 @@ pub struct Coloring {
     pub sweeps: usize,
 }
 
-/// The same signing, and how many directions and sweeps it took. Refusals as [`discrepancy_coloring`]'s.
+/// The same signing, and how many directions and sweeps it took.
+///
+/// # Errors
+///
+/// [`Refusal::Size`], [`Refusal::Length`] and [`Refusal::ColoringEntry`].
 pub fn color(columns: &[Vec<f64>], seed: u64) -> Result<Coloring, Refusal> {
-    let matrix = Matrix::new(columns);
-    let mut scratch = Scratch::new(&matrix);
-    let mut output = vec![0; columns.len()];
+    color_matrix(&Matrix::new(columns), seed)
+}
+
+pub(crate) fn color_matrix(matrix: &Matrix, seed: u64) -> Result<Coloring, Refusal> {
+    let mut scratch = Scratch::new(matrix);
+    // Beyond the limits nothing is written: the call is refused before it looks at the output.
+    let mut output = vec![0; matrix.m.min(MAX_COLUMNS)];
     let mut colored = Colored::default();
-    // Sound for the reasons that `thin` gives.
+    // SAFETY: for the reasons that `thin_matrix` gives.
     unsafe {
         knob_discrepancy_coloring(
             &mut colored,

@@ -50,13 +50,18 @@
 //!
 //! # Building
 //!
-//! `rt staticlib knobthistle` in the repository proves the library and writes the archive where this crate looks for it. An archive in
-//! another place is named by the environment variable `KNOBTHISTLE_ARCHIVE`: its path or its folder, from the root or from this crate's
-//! folder. It must be one for the machine: x86-64, or Arm as oracle/host-archive writes it.
+//! In a release the archive stands beside this crate. In the repository `host/archive` proves the library and writes the archive where
+//! this crate looks for it, as `rt staticlib knobthistle` does on x86-64. An archive in another place is named by the environment variable
+//! `KNOBTHISTLE_ARCHIVE`: its path or its folder, from the root or from this crate's folder. It must be one for the machine, x86-64 or Arm.
+
+#![warn(missing_docs)]
 
 mod all;
+mod answering;
 mod archive;
 mod coloring;
+mod draws;
+pub mod flat;
 mod lent;
 mod margins;
 mod moving;
@@ -67,8 +72,10 @@ pub mod sparsification;
 mod thinning;
 
 pub use all::{thin_all, Item};
+pub use answering::thin_sheet;
 pub use archive::MAX_ITEMS;
 pub use coloring::{color, discrepancy_coloring, Coloring};
+pub use draws::{cos_draw, log_draw, sqrt, SplitMix64};
 pub use lent::{MAX_COLUMNS, MAX_ROWS};
 pub use margins::{max_margin_change, turned_words};
 pub use moving::{moved, Moved};
@@ -77,7 +84,19 @@ pub use salvaging::salvage;
 pub use sheets::{read_sheet, write_sheet, Sheet};
 pub use thinning::{sparsify, sparsify_within, thin, Edition, Job, Rule, Thinned};
 
+/// The version of the archive: of its three figures, 1000000 times the first, 1000 times the second, and the third. It is this crate's.
+///
+/// ```
+/// let figure = |text: &str| text.parse::<u64>().unwrap();
+/// let (major, minor, patch) = (env!("CARGO_PKG_VERSION_MAJOR"), env!("CARGO_PKG_VERSION_MINOR"), env!("CARGO_PKG_VERSION_PATCH"));
+/// assert_eq!(knobthistle::version(), (figure(major) * 1000 + figure(minor)) * 1000 + figure(patch));
+/// ```
+pub fn version() -> u64 {
+    // SAFETY: the call takes nothing and gives a number.
+    unsafe { archive::knob_version() }
+}
+
 /// The example of the repository's README, built and run as a test.
-#[cfg(doctest)]
+#[cfg(all(doctest, in_repository))]
 #[doc = include_str!("../../../README.md")]
 struct Readme;

@@ -7,13 +7,19 @@ use crate::Refusal;
 /// Every row's change, by magnitude from the largest down, the smaller row first where two are equal: `changes[k]` is that of `rows[k]`.
 #[derive(Clone, Debug, Default, PartialEq)]
 pub struct Moved {
+    /// The rows, each once.
     pub rows: Vec<u32>,
+    /// The change of each of them, signed.
     pub changes: Vec<f64>,
 }
 
 impl Moved {
     /// Brings the list up to date: the same as [`moved`], whatever the list held, in less time where few rows have changed places. A
     /// refusal leaves the rows that are still there and their changes as they were.
+    ///
+    /// # Errors
+    ///
+    /// Those of [`moved`].
     ///
     /// ```
     /// let columns = vec![vec![1.0, 1.0], vec![1.0, -1.0]];
@@ -23,13 +29,17 @@ impl Moved {
     /// # Ok::<(), knobthistle::Refusal>(())
     /// ```
     pub fn again(&mut self, columns: &[Vec<f64>], before: &[f64], after: &[f64]) -> Result<(), Refusal> {
-        list(columns, before, after, self, true)
+        list(&Matrix::new(columns), before, after, self, true)
     }
 }
 
-/// The change of every row's margin when the weights `before` are replaced by `after`, both used as given, as a list in order. Refusals 3,
-/// 4, 7, and 8, which here is also given for a weight above 1 in magnitude. It is no function of the module that this library was made
-/// from.
+/// The change of every row's margin when the weights `before` are replaced by `after`, both used as given, as a list in order. It is no
+/// function of the module that this library was made from.
+///
+/// # Errors
+///
+/// [`Refusal::Size`], [`Refusal::Length`], [`Refusal::Entry`], and [`Refusal::Weight`], which here is also given for a weight above 1 in
+/// magnitude.
 ///
 /// ```
 /// let columns = vec![vec![1.0, 1.0], vec![1.0, -1.0]];
@@ -38,18 +48,21 @@ impl Moved {
 /// # Ok::<(), knobthistle::Refusal>(())
 /// ```
 pub fn moved(columns: &[Vec<f64>], before: &[f64], after: &[f64]) -> Result<Moved, Refusal> {
-    let mut moved = Moved::default();
-    list(columns, before, after, &mut moved, false).map(|()| moved)
+    moved_in_matrix(&Matrix::new(columns), before, after)
 }
 
-fn list(columns: &[Vec<f64>], before: &[f64], after: &[f64], moved: &mut Moved, again: bool) -> Result<(), Refusal> {
-    let matrix = Matrix::new(columns);
+pub(crate) fn moved_in_matrix(matrix: &Matrix, before: &[f64], after: &[f64]) -> Result<Moved, Refusal> {
+    let mut moved = Moved::default();
+    list(matrix, before, after, &mut moved, false).map(|()| moved)
+}
+
+fn list(matrix: &Matrix, before: &[f64], after: &[f64], moved: &mut Moved, again: bool) -> Result<(), Refusal> {
     // Beyond the limits nothing is written: the call is refused before it looks at the lists.
     let places = matrix.n.min(MAX_ROWS);
     moved.rows.resize(places, 0);
     moved.changes.resize(places, 0.0);
     let call = if again { knob_moved_again } else { knob_moved };
-    // Sound for the reasons that `thin` gives.
+    // SAFETY: for the reasons that `thin_matrix` gives.
     let number = unsafe {
         call(
             matrix.entries.as_ptr(),

@@ -6,6 +6,7 @@ use std::fmt;
 /// Why a call was refused, by the numbers of include/knobthistle.h. Where several apply, the first
 /// in the order below is given.
 #[derive(Clone, Copy, Debug, PartialEq, Eq, Hash)]
+#[non_exhaustive]
 pub enum Refusal {
     /// 1: the allowance is negative or a NaN. Minus zero is accepted.
     Allowance = 1,

@@ -15,7 +15,7 @@ pub fn salvage(text: &[u8]) -> Vec<u8> {
     // A `lost` line has at most 26 bytes, and beside these lines the text is at most as long as a sheet.
     let lines = text.iter().filter(|byte| **byte == b'\n').count() + 1;
     let mut answer = vec![0; LONGEST + 26 * lines];
-    // Sound for the reasons that `thin` gives.
+    // SAFETY: for the reasons that `thin_matrix` gives.
     let length = unsafe { knob_salvage(text.as_ptr(), text.len(), answer.as_mut_ptr(), answer.len()) };
     answer.truncate(length);
     answer

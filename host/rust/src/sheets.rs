@@ -7,18 +7,24 @@ use crate::{Edition, Job, Refusal, Rule};
 /// What a sheet says: a matrix by its columns, their weights, and a job.
 #[derive(Clone, Debug, PartialEq)]
 pub struct Sheet {
+    /// The matrix, column by column.
     pub columns: Vec<Vec<f64>>,
     /// How many entries each column has: also where there is no column.
     pub rows: usize,
+    /// A weight for each column.
     pub weights: Vec<f64>,
+    /// The seed, the edition and the rule.
     pub job: Job,
 }
 
 /// No sheet's text is longer.
 pub(crate) const LONGEST: usize = 35572;
 
-/// The text of a sheet: of every double its bits, so that NaNs keep their pattern and zeros their sign. Refusals 3 (more than 32 columns
-/// or 64 rows, a target or cap above 4294967295) and 4.
+/// The text of a sheet: of every double its bits, so that NaNs keep their pattern and zeros their sign.
+///
+/// # Errors
+///
+/// [`Refusal::Size`] (more than 32 columns or 64 rows, a target or cap above 4294967295) and [`Refusal::Length`].
 ///
 /// ```
 /// use knobthistle::{read_sheet, write_sheet, Edition, Job, Rule, Sheet};
@@ -41,7 +47,7 @@ pub fn write_sheet(sheet: &Sheet) -> Result<Vec<u8>, Refusal> {
     };
     let mut text = vec![0; LONGEST];
     let mut length = 0;
-    // Sound for the reasons that `thin` gives.
+    // SAFETY: for the reasons that `thin_matrix` gives.
     let number = unsafe {
         knob_write_sheet(
             entries.as_ptr(),
@@ -64,10 +70,14 @@ pub fn write_sheet(sheet: &Sheet) -> Result<Vec<u8>, Refusal> {
     Refusal::check(number).map(|()| text)
 }
 
-/// What a text says, or the number of its first wrong line, from 1.
+/// What a text says.
+///
+/// # Errors
+///
+/// The number of its first wrong line, from 1.
 pub fn read_sheet(text: &[u8]) -> Result<Sheet, u64> {
     let (mut matrix, mut weights, mut first) = ([0; 2048], [0; 32], [0; 7]);
-    // Sound for the reasons that `thin` gives.
+    // SAFETY: for the reasons that `thin_matrix` gives.
     let number = unsafe {
         knob_read_sheet(
             text.as_ptr(),

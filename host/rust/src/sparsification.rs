@@ -12,7 +12,11 @@ fn or_panic<T>(answer: Result<T, Refusal>) -> T {
     answer.unwrap_or_else(|refusal| panic!("{refusal}"))
 }
 
-/// [`sparsify`](crate::sparsify); panics where that is refused.
+/// [`sparsify`](crate::sparsify) with the original's result.
+///
+/// # Panics
+///
+/// Where that is refused.
 ///
 /// ```
 /// use knobthistle::sparsification::{max_margin_change, sparsify};
@@ -28,17 +32,29 @@ pub fn sparsify(columns: &[Vec<f64>], weights: &[f64], target: usize, seed: u64)
     or_panic(crate::sparsify(columns, weights, target, seed))
 }
 
-/// [`sparsify_within`](crate::sparsify_within); panics where that is refused.
+/// [`sparsify_within`](crate::sparsify_within) with the original's result.
+///
+/// # Panics
+///
+/// Where that is refused.
 pub fn sparsify_within(columns: &[Vec<f64>], weights: &[f64], max_change: f64, max_nonzeros: Option<usize>, seed: u64) -> Vec<f64> {
     or_panic(crate::sparsify_within(columns, weights, max_change, max_nonzeros, seed))
 }
 
-/// [`max_margin_change`](crate::max_margin_change); panics where that is refused.
+/// [`max_margin_change`](crate::max_margin_change) with the original's result.
+///
+/// # Panics
+///
+/// Where that is refused.
 pub fn max_margin_change(columns: &[Vec<f64>], before: &[f64], after: &[f64]) -> f64 {
     or_panic(crate::max_margin_change(columns, before, after))
 }
 
-/// [`discrepancy_coloring`](crate::discrepancy_coloring); panics where that is refused.
+/// [`discrepancy_coloring`](crate::discrepancy_coloring) with the original's result.
+///
+/// # Panics
+///
+/// Where that is refused.
 pub fn discrepancy_coloring(columns: &[Vec<f64>], seed: u64) -> Vec<i8> {
     or_panic(crate::discrepancy_coloring(columns, seed))
 }

@@ -1,7 +1,7 @@
 //! The thinning of an ensemble's weights.
 
 use crate::archive::{knob_sparsify, knob_sparsify_within, Answer};
-use crate::lent::{Matrix, Scratch};
+use crate::lent::{Matrix, Scratch, MAX_COLUMNS};
 use crate::Refusal;
 
 /// When a thinning stops.
@@ -13,7 +13,12 @@ pub enum Rule {
     /// passes go on until at most so many nonzeros are left, even where the allowance is exceeded, and from there while stages measure
     /// within the allowance again. So it stops at the first stage with a single nonzero, or with at most so many that measures above the
     /// allowance itself or is followed by one that does.
-    Within { allowance: f64, cap: Option<usize> },
+    Within {
+        /// How far any row's margin may move.
+        allowance: f64,
+        /// At most so many nonzeros, whatever the margins say.
+        cap: Option<usize>,
+    },
 }
 
 /// Which number an output of the generator becomes.
@@ -29,8 +34,11 @@ pub enum Edition {
 /// A job: the seed of its draws, their edition, and when it stops.
 #[derive(Clone, Copy, Debug, PartialEq)]
 pub struct Job {
+    /// Starts the generator, which runs on through all passes.
     pub seed: u64,
+    /// The edition of its draws.
     pub edition: Edition,
+    /// When it stops.
     pub rule: Rule,
 }
 
@@ -56,12 +64,21 @@ pub struct Thinned {
 }
 
 /// Thins weights, and gives the whole answer. [`sparsify`] and [`sparsify_within`] give its weights alone.
+///
+/// # Errors
+///
+/// Every [`Refusal`] but [`Refusal::Scratch`] and [`Refusal::ColoringEntry`]; [`Refusal::Allowance`] and [`Refusal::InfiniteAllowance`]
+/// only where the rule has an allowance.
 pub fn thin(columns: &[Vec<f64>], weights: &[f64], job: Job) -> Result<Thinned, Refusal> {
-    let matrix = Matrix::new(columns);
-    let mut scratch = Scratch::new(&matrix);
-    let mut output = vec![0.0; columns.len()];
+    thin_matrix(&Matrix::new(columns), weights, job)
+}
+
+pub(crate) fn thin_matrix(matrix: &Matrix, weights: &[f64], job: Job) -> Result<Thinned, Refusal> {
+    let mut scratch = Scratch::new(matrix);
+    // Beyond the limits nothing is written: the call is refused before it looks at the output.
+    let mut output = vec![0.0; matrix.m.min(MAX_COLUMNS)];
     let mut answer = Answer::default();
-    // Sound: each pointer is that of a Vec or slice, so never null, and goes with its length; what is written is borrowed from
+    // SAFETY: each pointer is that of a Vec or slice, so never null, and goes with its length; what is written is borrowed from
     // nowhere else; the archive answers for every length, and keeps no pointer.
     unsafe {
         match job.rule {
@@ -125,7 +142,11 @@ pub(crate) fn answered(answer: Answer, output: Vec<f64>) -> Result<Thinned, Refu
 }
 
 /// Thins weights to at most `target` nonzeros. The weights are divided by the sum of their magnitudes first; signs are kept, and a
-/// weight that is 0 stays 0. Draws are those of [`Edition::First`]. Refusals 2 to 5 and 7 to 9.
+/// weight that is 0 stays 0. Draws are those of [`Edition::First`].
+///
+/// # Errors
+///
+/// Those of [`thin`].
 ///
 /// ```
 /// let columns = vec![vec![1.0, 1.0], vec![1.0, -1.0]];
@@ -136,7 +157,11 @@ pub fn sparsify(columns: &[Vec<f64>], weights: &[f64], target: usize, seed: u64)
 }
 
 /// Thins weights as far as no margin changes by more than `max_change`; with `max_nonzeros` to at most so many, even where the change is
-/// exceeded: see [`Rule::Within`]. Draws are those of [`Edition::First`]. Refusals 1 to 5 and 7 to 9.
+/// exceeded: see [`Rule::Within`]. Draws are those of [`Edition::First`].
+///
+/// # Errors
+///
+/// Those of [`thin`].
 ///
 /// ```
 /// let columns = vec![vec![1.0, 1.0], vec![1.0, -1.0]];

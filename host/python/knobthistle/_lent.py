@@ -1,0 +1,71 @@
+"""Arrays as the archive takes them."""
+from __future__ import annotations
+
+import operator
+from typing import Any, Optional, SupportsIndex
+
+import numpy as np
+from numpy.typing import ArrayLike, NDArray
+
+MAX_COLUMNS, MAX_ROWS = 256, 4096
+
+
+def numbers(values: ArrayLike, what: str) -> NDArray[Any]:
+    """An array of numbers or bools; what is neither is no array of ours."""
+    array = np.asarray(values)
+    if array.dtype.kind not in "biuf":
+        # An empty list has no numbers to tell its kind by; numpy makes it one of doubles.
+        raise TypeError(f"{what}: an array of numbers is wanted, not of {array.dtype}")
+    return array
+
+
+def signs(margins: ArrayLike) -> Optional[NDArray[np.bool_]]:
+    """Margins that are all 1 or -1 as bools, an eighth of their length; none where they are not."""
+    array = numbers(margins, "margins")
+    if array.dtype == np.bool_:
+        return array
+    positive = array == 1
+    return positive if np.logical_or(positive, array == -1).all() else None
+
+
+def matrix(margins: ArrayLike) -> NDArray[np.float64]:
+    """Margins as doubles, hypothesis after hypothesis. An array that is so already is not copied."""
+    array = numbers(margins, "margins")
+    if array.ndim != 2:
+        raise ValueError(f"margins have two axes, words and hypotheses, not {array.ndim}")
+    if array.dtype == np.bool_:
+        array = np.where(array, 1.0, -1.0)
+    return np.require(array, np.float64, ["F", "A"])
+
+
+def vector(values: ArrayLike, what: str) -> NDArray[np.float64]:
+    """A list of doubles."""
+    array = numbers(values, what)
+    if array.ndim != 1:
+        raise ValueError(f"{what}: a list is wanted, not an array of {array.ndim} axes")
+    return np.require(array, np.float64, ["C", "A"])
+
+
+def lent(array: NDArray[Any]) -> tuple[int, int]:
+    """The address and the length of an array."""
+    return array.ctypes.data, array.size
+
+
+def lent_matrix(array: NDArray[np.float64]) -> tuple[int, int, int, int]:
+    """The address, the length, the hypotheses and the words."""
+    words, hypotheses = array.shape
+    return array.ctypes.data, array.size, hypotheses, words
+
+
+def scratch(array: NDArray[np.float64]) -> tuple[NDArray[np.float64], NDArray[np.uint32]]:
+    """What a thinning of such a matrix wants. Beyond the limits it is refused before the scratch is looked at."""
+    n, m = min(array.shape[0], MAX_ROWS), min(array.shape[1], MAX_COLUMNS)
+    return np.empty(m * (n + 1) + m * m + 16 * m + 8 * (n + 1)), np.empty(8 * (m + n + 1), np.uint32)
+
+
+def word(value: SupportsIndex, what: str, bits: int = 64) -> int:
+    """A whole number of so many bits."""
+    number = operator.index(value)
+    if not 0 <= number < 2**bits:
+        raise ValueError(f"{what}: a whole number from 0 to 2^{bits} - 1 is wanted, not {number}")
+    return number
