@@ -5,4 +5,3 @@ pub mod Colours
 pub mod Counts
 pub mod Walks
 pub mod SameColumns
-pub mod Starts

@@ -38,7 +38,7 @@ pub fn named_rule(number: u32, allowance: f64, limit: usize) -> Rule
 }
 
 // 13 where the edition is neither 1 nor 2.
-fn edition_fault(edition: u32) -> u64
+pub fn edition_fault(edition: u32) -> u64
     ensures { λ r. ⌜ r ≡ editionFault edition ⌝ }
 {
     if edition == 1 {
@@ -66,7 +66,7 @@ fn room_fault(m: usize, n: usize, numbers: usize, indices: usize) -> u64
 }
 
 // 3 to 6, of the sizes.
-fn size_fault(
+pub fn size_fault(
     m: usize,
     n: usize,
     matrix: usize,

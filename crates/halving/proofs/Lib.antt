@@ -9,6 +9,5 @@ pub mod Heaviest
 pub mod Quarter
 pub mod Few
 pub mod Calls
-pub mod Starts
 pub mod Left
 pub mod Adding

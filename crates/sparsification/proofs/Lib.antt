@@ -7,5 +7,4 @@ pub mod Finishing
 pub mod DemandThree
 pub mod Settled
 pub mod Hundred
-pub mod Starts
 pub mod Along

@@ -4,6 +4,3 @@ pub mod Ending
 pub mod Counts
 pub mod Phases
 pub mod SameEntries
-pub mod Pairs
-pub mod Divisors
-pub mod Starts

@@ -1,4 +1,5 @@
--- What a sum starts from, +0.0 or -0.0, alters no pass: the colours are the same, and of magnitudes, none of which is -0.0, the sums are the same.
+-- The sign of a row, and the zero that a sum starts from, alter no pass: the colours are the same, and of magnitudes, none of which is -0.0, the sums are
+-- the same from either zero. The row of a pass's scales is turned by nothing.
 use Prim.Native.Nat.{ℕ, zero, suc, _+_, _-_, _*_}
 use mathlib.Core.Path.{_≡_, refl, ap, _∙_}
 use mathlib.Core.Bool.{Bool, true, false, cond, _&&_}
@@ -7,20 +8,24 @@ use native.Mathlib.Omega.{arith}
 use borrow.Author.Tests.{ltb-true, ltb-false}
 use lib.IntN.{pos}
 use lib.Dec.{ltb, eqb}
-use lib.ListN.{length}
-use lib.Ieee.{Float, nan, inf, fin, Format, binary64, up, down, round, sum, add, lt, ofBits}
+use lib.ListN.{length, getD}
+use lib.Ieee.{Float, nan, inf, fin, Format, binary64, up, down, round, sum, add, mul, lt, ofBits}
 use Rattle.seq.specs.Choice.{pick}
 use Rattle.seq.specs.Lists.{tabulate}
 use Rattle.seq.specs.Sums.{plusZero, minusZero, sumFrom, sumTo, at}
 use Rattle.ieee.specs.Magnitude.{absOf}
+use Rattle.ieee.specs.Flat.{Alike}
 use Rattle.ieee.proofs.Signs.{nought-is}
+use Rattle.ieee.proofs.Ops.{unlike-false}
+use Rattle.ieee.proofs.Alikes.{alike-refl}
 use Rattle.coloring.specs.Coloring.{Colored}
-use Rattle.coloring.proofs.Starts.{starts-alike}
 use Rattle.weights.specs.Weights.{l1Of, sound, overAt, normalized}
 use Rattle.ranking.specs.Ranking.{restOf, omegaOf}
-use Rattle.doubling.specs.Doubling.{remaining}
+use Rattle.doubling.specs.Doubling.{remaining, scaleAt}
 use Rattle.halve.specs.Halve.{scaledColumns, Halved, halvedBy, halvedOnce}
 use Rattle.halving.specs.Halving.{halvedTwice, passOf}
+use Rattle.turning.proofs.Signed.{Facing, facing, mul-facing}
+use Rattle.turning.proofs.Colourings.{coloring-same}
 
 -- ---- the sum of magnitudes
 
@@ -67,20 +72,51 @@ normalized-same (x ∷ w) = ap (λ (d : Float). tabulate (overAt d (x ∷ w)) (l
 
 -- ---- the pass
 
-module _ (u : ℕ → ℕ → Float) (n : ℕ) where
-  once-same : (largest : Float) (rest : List ℕ) (h : Halved) → halvedOnce minusZero u n largest rest h ≡ halvedOnce plusZero u n largest rest h
+-- a zero that a sum of magnitudes may start from
+pub record Start (z : Float) : Type 0 where
+  pub zero : Alike z plusZero
+  pub divides : (w : List Float) → normalized z w ≡ normalized plusZero w
+
+pub plus-start : Start plusZero
+plus-start = record { zero = alike-refl plusZero; divides = λ w. refl }
+
+minus-zero : Alike minusZero plusZero
+unfolding ofBits
+minus-zero = record { flatly = refl }
+
+pub minus-start : Start minusZero
+minus-start = record { zero = minus-zero; divides = normalized-same }
+
+-- sums from such a zero and from +0.0, on two matrices that are alike once their turned rows are negated
+module _ {z : Float} (start : Start z) (turns : ℕ → Bool) (u u' : ℕ → ℕ → Float) (same : (j i : ℕ) → Facing (turns i) (u j i) (u' j i)) (n : ℕ) where
+  -- the rows that are turned in a pass
+  abbrev inPass : ℕ → Bool
+  inPass i = pick (ltb i n) (turns i) false
+
+  scaled-same : (w : List Float) (largest : Float) (rest : List ℕ) (p i : ℕ)
+      → Facing (inPass i) (scaledColumns u n w largest rest p i) (scaledColumns u' n w largest rest p i)
+  scaled-same w largest rest p i = go (ltb i n)
+    where
+      go : (t : Bool) → Facing (pick t (turns i) false)
+          (pick t (mul binary64 (u (getD rest p 0) i) (scaleAt w largest rest p)) (absOf (scaleAt w largest rest p)))
+          (pick t (mul binary64 (u' (getD rest p 0) i) (scaleAt w largest rest p)) (absOf (scaleAt w largest rest p)))
+      go true = mul-facing binary64 (unlike-false (turns i)) (same (getD rest p 0) i) (facing (alike-refl _))
+      go false = facing (alike-refl _)
+
+  once-same : (largest : Float) (rest : List ℕ) (h : Halved) → halvedOnce z u n largest rest h ≡ halvedOnce plusZero u' n largest rest h
   unfolding halvedOnce
   once-same largest rest h =
       let r : List ℕ = remaining (h .w) rest in
       ap (λ (c : Colored). pick (eqb (length r) 0) h (halvedBy h r c))
-      (starts-alike (scaledColumns u n (h .w) largest r) (length r) (suc n) (h .rng))
+      (coloring-same z (start .zero) inPass (scaledColumns u n (h .w) largest r) (scaledColumns u' n (h .w) largest r) (scaled-same (h .w) largest r)
+      (length r) (suc n) (h .rng))
 
-  twice-same : (h : Halved) → halvedTwice minusZero u n h ≡ halvedTwice plusZero u n h
+  twice-same : (h : Halved) → halvedTwice z u n h ≡ halvedTwice plusZero u' n h
   unfolding halvedTwice
   twice-same h =
-      once-same (omegaOf (h .w)) (restOf (h .w)) (halvedOnce minusZero u n (omegaOf (h .w)) (restOf (h .w)) h)
-      ∙ ap (halvedOnce plusZero u n (omegaOf (h .w)) (restOf (h .w))) (once-same (omegaOf (h .w)) (restOf (h .w)) h)
+      once-same (omegaOf (h .w)) (restOf (h .w)) (halvedOnce z u n (omegaOf (h .w)) (restOf (h .w)) h)
+      ∙ ap (halvedOnce plusZero u' n (omegaOf (h .w)) (restOf (h .w))) (once-same (omegaOf (h .w)) (restOf (h .w)) h)
 
-  pub pass-same : (h : Halved) → passOf minusZero u n h ≡ passOf plusZero u n h
+  pub pass-same : (h : Halved) → passOf z u n h ≡ passOf plusZero u' n h
   unfolding passOf
-  pass-same h = rw (twice-same h, normalized-same (halvedTwice plusZero u n h .w))
+  pass-same h = rw (twice-same h, start .divides (halvedTwice plusZero u' n h .w))

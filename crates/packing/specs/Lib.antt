@@ -1,0 +1,2 @@
+-- Weights, packed.
+pub mod Packed

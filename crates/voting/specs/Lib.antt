@@ -1,0 +1,2 @@
+-- Thinning from labels and votes.
+pub mod Votes
