@@ -14,8 +14,8 @@ use Rattle.seq.proofs.Every.{every-at}
 use Rattle.ieee.specs.Magnitude.{absOf}
 use Rattle.limits.specs.Limits.{bounded}
 
-pub bounded-at : (most : Float) (u : List Float) → bounded most u ≡ true → (i : ℕ) → i < length u → T (le (absOf (at u i)) most)
-bounded-at most u h i l = shown (le (absOf (at u i)) most) (every-at (λ i. le (absOf (at u i)) most) (length u) i h l)
+pub bounded-at : (most : Float) (matrix : List Float) → bounded most matrix ≡ true → (i : ℕ) → i < length matrix → T (le (absOf (at matrix i)) most)
+bounded-at most matrix h i l = shown (le (absOf (at matrix i)) most) (every-at (λ i. le (absOf (at matrix i)) most) (length matrix) i h l)
 
 -- what is at most a finite value is finite
 pub finite-within : (x : Float) (s : Bool) (m : ℕ) (e : ℤ) → T (le (absOf x) (fin s m e)) → T (finite x)

@@ -28,7 +28,7 @@ scratchShort m n numbers indices = ltb numbers (numbersNeeded m n) || ltb indice
 
 -- every entry is at most so large in magnitude; a NaN is not
 abbrev pub bounded : Float → List Float → Bool
-bounded most u = allTo (λ i. le (absOf (at u i)) most) (length u)
+bounded most matrix = allTo (λ i. le (absOf (at matrix i)) most) (length matrix)
 
 -- every number of a list is finite
 abbrev pub allFinite : List Float → Bool

@@ -6,4 +6,4 @@ use Rattle.seq.specs.Sums.{at}
 
 -- column after column, each n long
 abbrev pub columnsOf : List Float → ℕ → ℕ → ℕ → Float
-columnsOf u n j i = at u (j * n + i)
+columnsOf matrix n j i = at matrix (j * n + i)

@@ -13,10 +13,10 @@ use Rattle.limits.proofs.all_bounded.Statement.{statement}
 use Rattle.limits.proofs.all_bounded.Tie as tie
 
 abbrev Inv-loop : tie.InvT-loop
-Inv-loop u most ok₀ i₀ ok i = (i ≤ length u) × (ok ≡ allTo (λ k. le (absOf (at u k)) most) i)
+Inv-loop matrix most ok₀ i₀ ok i = (i ≤ length matrix) × (ok ≡ allTo (λ k. le (absOf (at matrix k)) most) i)
 
 abbrev μ-loop : tie.MeasureT-loop
-μ-loop u most ok₀ i₀ ok i = length u - i
+μ-loop matrix most ok₀ i₀ ok i = length matrix - i
 
 loop-holds : tie.Need-loop-holds Inv-loop μ-loop
 unfolding allTo
@@ -43,7 +43,7 @@ loop-again c = (omega arith, rw (add-one, c .before .before .before .loop .inv .
 
 returns : tie.Need-returns Inv-loop μ-loop
 returns c =
-    let done : c .before .loop .i ≡ length (c .before .before .before .args .u .now) = omega arith in
+    let done : c .before .loop .i ≡ length (c .before .before .before .args .matrix .now) = omega arith in
     rw (← done) (c .before .loop .inv .1)
 
 pub all-bounded-spec : {M : Type 1} → statement M

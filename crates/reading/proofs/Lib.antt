@@ -1,0 +1,2 @@
+-- A lent matrix, however it is read.
+pub mod Lent

@@ -1,0 +1,3 @@
+-- Laws of a scaled column of bits.
+pub mod VotesRows
+pub mod Under

@@ -1,0 +1,2 @@
+-- A number that the bits of a column sign.
+pub mod Signing
