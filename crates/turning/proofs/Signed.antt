@@ -18,19 +18,10 @@ use Rattle.ieee.proofs.Ops.{mul-commutes}
 use Rattle.ieee.proofs.Alikes.{alike-refl, alike-of-eq, alike-trans, add-alike, sub-alike, mul-alike, div-alike, neg-alike, abs-alike, nan-alike, lt-alike}
 use Rattle.ieee.proofs.Equality.{alike-nonzero}
 use Rattle.ieee.proofs.Ranks.{none-below, ltb-no}
-
--- negated where the sign says so
-abbrev pub signedBy : Bool → Float → Float
-signedBy true x = neg x
-signedBy false x = x
+use Rattle.votes.specs.Signing.{signedBy}
+use Rattle.votes.proofs.Turning.{not-unlike, neg-neg, round-neg, neg-times, times-neg}
 
 -- ---- what negation does, to the bit
-
-not-unlike : (s t : Bool) → unlike (not s) t ≡ not (unlike s t)
-not-unlike true true = refl
-not-unlike true false = refl
-not-unlike false true = refl
-not-unlike false false = refl
 
 -- the sign of a product of one value with itself, of a product with a value that is not turned, and of what is turned there and back
 pub unlike-self : (s : Bool) → unlike s s ≡ false
@@ -46,52 +37,6 @@ unlike-back true true = refl
 unlike-back true false = refl
 unlike-back false true = refl
 unlike-back false false = refl
-
-not-not : (s : Bool) → not (not s) ≡ s
-not-not true = refl
-not-not false = refl
-
-neg-neg : (x : Float) → neg (neg x) ≡ x
-unfolding neg
-neg-neg nan = refl
-neg-neg (inf s) = ap inf (not-not s)
-neg-neg (fin s m e) = ap (λ (z : Bool). fin z m e) (not-not s)
-
-units-neg : (f : Format) (s : Bool) (q k : ℕ) → units f (not s) q k ≡ neg (units f s q k)
-unfolding units odd neg
-units-neg f s q k = go (ltb (q * 2 ^ k) (2 ^ (low f + suc (emax f)))) q
-  where
-    go : (t : Bool) (q : ℕ) → cond t (odd (suc (prec f)) (not s) q k (low f)) (inf (not s)) ≡ neg (cond t (odd (suc (prec f)) s q k (low f)) (inf s))
-    go true zero = refl
-    go true (suc q) = refl
-    go false q = refl
-
--- rounding goes by the magnitude alone
-round-neg : (f : Format) (s : Bool) (a c : ℕ) → round f (not s) a c ≡ neg (round f s a c)
-unfolding round
-round-neg f s a c = units-neg f s _ _
-
-neg-times : (f : Format) (x y : Float) → mul f (neg x) y ≡ neg (mul f x y)
-unfolding mul neg
-neg-times f nan y = refl
-neg-times f (inf s) nan = refl
-neg-times f (inf s) (inf t) = ap inf (not-unlike s t)
-neg-times f (inf s) (fin t n d) = go (eqb n 0)
-  where
-    go : (u : Bool) → cond u nan (inf (unlike (not s) t)) ≡ neg (cond u nan (inf (unlike s t)))
-    go true = refl
-    go false = ap inf (not-unlike s t)
-neg-times f (fin s m e) nan = refl
-neg-times f (fin s m e) (inf t) = go (eqb m 0)
-  where
-    go : (u : Bool) → cond u nan (inf (unlike (not s) t)) ≡ neg (cond u nan (inf (unlike s t)))
-    go true = refl
-    go false = ap inf (not-unlike s t)
-neg-times f (fin s m e) (fin t n d) =
-    ap (λ (z : Bool). round f z (m * up e * (n * up d)) (down e * down d)) (not-unlike s t) ∙ round-neg f (unlike s t) _ _
-
-times-neg : (f : Format) (x y : Float) → mul f x (neg y) ≡ neg (mul f x y)
-times-neg f x y = mul-commutes f x (neg y) ∙ neg-times f y x ∙ ap neg (mul-commutes f y x)
 
 neg-over : (f : Format) (x y : Float) → div f (neg x) y ≡ neg (div f x y)
 unfolding div neg

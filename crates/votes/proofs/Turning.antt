@@ -11,7 +11,7 @@ use Rattle.ieee.proofs.Ops.{mul-commutes}
 use Rattle.ieee.proofs.Products.{times-one}
 use Rattle.votes.specs.Signing.{signedBy}
 
-not-unlike : (s t : Bool) → unlike (not s) t ≡ not (unlike s t)
+pub not-unlike : (s t : Bool) → unlike (not s) t ≡ not (unlike s t)
 not-unlike true true = refl
 not-unlike true false = refl
 not-unlike false true = refl
@@ -21,7 +21,7 @@ not-not : (s : Bool) → not (not s) ≡ s
 not-not true = refl
 not-not false = refl
 
-neg-neg : (x : Float) → neg (neg x) ≡ x
+pub neg-neg : (x : Float) → neg (neg x) ≡ x
 unfolding neg
 neg-neg nan = refl
 neg-neg (inf s) = ap inf (not-not s)

@@ -24,7 +24,7 @@ use Rattle.draw.specs.declared.SplitMix64.{SplitMix64}
 use Rattle.rules.specs.declared.Rule.{Rule}
 use Rattle.sparsification.specs.Answers.{answerAt, answerOf, stopFor, returned}
 use Rattle.sparsification.proofs.Accepting.{every}
-use Rattle.turning.proofs.Signed.{signedBy, Facing, facing, nan-facing, mul-facing}
+use Rattle.turning.proofs.Signed.{Facing, facing, nan-facing, mul-facing}
 use Rattle.turning.proofs.Passes.{plus-start}
 use Rattle.turning.proofs.Stages.{stage-same, moved-same, stop-same, passes-same}
 use Rattle.voting.specs.Votes.{isLabel, allLabels, marginOf, marginsOf}
