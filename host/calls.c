@@ -19,8 +19,8 @@
 #define NOISE 0x5AA5C33C0FF0E11Eu
 
 static double matrix_room[ROOM], weights_room[ROOM], before_room[ROOM], after_room[ROOM], output_room[ROOM], numbers_room[ROOM];
-static int8_t signs_room[ROOM];
-static uint32_t indices_room[ROOM];
+static int8_t signs_room[ROOM], labels_room[ROOM];
+static uint32_t columns_room[ROOM], indices_room[ROOM];
 static uint8_t text_room[ROOM], answer_room[ROOM];
 
 static int wrong = 0;
@@ -48,7 +48,7 @@ static void lend(void) {
     for (size_t k = 0; k < ROOM; k++) {
         output_room[k] = numbers_room[k] = number(NOISE);
         signs_room[k] = 0x5A;
-        indices_room[k] = (uint32_t)NOISE;
+        columns_room[k] = indices_room[k] = (uint32_t)NOISE;
         answer_room[k] = 0x5A;
     }
 }
@@ -65,7 +65,7 @@ static int wiped(size_t numbers_length, size_t indices_length) {
 /* Nothing that was lent has been written. */
 static int untouched(void) {
     for (size_t k = 0; k < ROOM; k++)
-        if (bits(output_room[k]) != NOISE || signs_room[k] != 0x5A) return 0;
+        if (bits(output_room[k]) != NOISE || signs_room[k] != 0x5A || columns_room[k] != (uint32_t)NOISE) return 0;
     return wiped(0, 0);
 }
 
@@ -332,6 +332,113 @@ static void thin_all(void) {
     }
 }
 
+/* The columns and the kept weights have what these weights leave, packed, zeros behind, and noise behind them. */
+static int packed(const double *left, size_t m) {
+    size_t k = 0;
+    for (size_t j = 0; j < m; j++) {
+        if (left[j] == 0.0) continue;
+        if (columns_room[k] != j || bits(output_room[k]) != bits(left[j])) return 0;
+        k++;
+    }
+    for (; k < ROOM; k++)
+        if (columns_room[k] != (k < m ? 0 : (uint32_t)NOISE) || bits(output_room[k]) != (k < m ? 0 : NOISE)) return 0;
+    return 1;
+}
+
+/* The entries for confidences, with labels of both signs: the answers are those of the calls on margins that are formed here. */
+static void thin_votes(void) {
+    static double margins[120];
+    double left[24];
+    const double *confidences = matrix_room, *weights = weights_room;
+    const int8_t *labels = labels_room;
+    double *kept = output_room, *numbers = numbers_room;
+    uint32_t *columns = columns_room, *indices = indices_room;
+    const size_t numbers_length = KNOB_NUMBERS(24, 5), indices_length = KNOB_INDICES(24, 5);
+    fill(24, 5);
+    memcpy(labels_room, (int8_t[]){1, -1, -1, 1, -1}, 5);
+    for (size_t k = 0; k < 120; k++) margins[k] = (double)labels_room[k % 5] * matrix_room[k];
+    {
+        const size_t m = 24, n = 5, weights_length = 24, confidences_length = 120, labels_length = 5, columns_length = 24, kept_length = 24;
+        const uint64_t seed = 0xACFA9D4D29BC9012u;
+        const uint32_t edition = 2, rule = 0;
+        const double allowance = -1.0;
+        const size_t limit = 7;
+        knob_answer alone;
+        {
+            const double *matrix = margins;
+            double *output = output_room;
+            const size_t matrix_length = 120, output_length = 24, target = 7;
+            lend();
+            alone = CALL_knob_sparsify;
+            memcpy(left, output_room, sizeof left);
+        }
+        lend();
+        const knob_answer votes = CALL_knob_thin_votes;
+        hold("knob_thin_votes, its record", votes.number == KNOB_ACCEPTED && memcmp(&votes, &alone, sizeof votes) == 0);
+        hold("knob_thin_votes, its lists", votes.nonzeros == 5 && packed(left, m));
+        hold("knob_thin_votes, wiped", wiped(numbers_length, indices_length));
+    }
+    {
+        const size_t m = 24, n = 5, weights_length = 24, confidences_length = 120, labels_length = 5, columns_length = 24, kept_length = 24;
+        const uint64_t seed = 4;
+        const uint32_t edition = 1, rule = 2;
+        const double allowance = 0.03125;
+        const size_t limit = 12;
+        knob_answer alone;
+        {
+            const double *matrix = margins;
+            double *output = output_room;
+            const size_t matrix_length = 120, output_length = 24, cap = 12;
+            const uint32_t capped = 1;
+            lend();
+            alone = CALL_knob_sparsify_within;
+            memcpy(left, output_room, sizeof left);
+        }
+        lend();
+        const knob_answer votes = CALL_knob_thin_votes;
+        hold("knob_thin_votes by a cap, its record", votes.number == KNOB_ACCEPTED && memcmp(&votes, &alone, sizeof votes) == 0);
+        hold("knob_thin_votes by a cap", packed(left, m) && wiped(numbers_length, indices_length));
+    }
+    { /* The labels are tested after the sizes, and before the confidences. */
+        const size_t m = 24, n = 5, weights_length = 24, confidences_length = 120, kept_length = 24;
+        const uint64_t seed = 4;
+        const uint32_t edition = 1, rule = 1;
+        const double allowance = 0.5;
+        const size_t limit = 12;
+        size_t labels_length = 5, columns_length = 24;
+        labels_room[3] = 0;
+        matrix_room[7] = 2.0;
+        lend();
+        hold("knob_thin_votes, no such label", answers(CALL_knob_thin_votes, KNOB_REFUSED_LABEL, 0, 0, 0, 0, 0) && untouched());
+        columns_length = 23;
+        hold("knob_thin_votes, too few columns", answers(CALL_knob_thin_votes, KNOB_REFUSED_LENGTH, 0, 0, 0, 0, 0) && untouched());
+        columns_length = 24;
+        labels_length = 6;
+        hold("knob_thin_votes, too many labels", answers(CALL_knob_thin_votes, KNOB_REFUSED_LENGTH, 0, 0, 0, 0, 0) && untouched());
+        labels_length = 5;
+        labels_room[3] = 1;
+        hold("knob_thin_votes, no such confidence", answers(CALL_knob_thin_votes, KNOB_REFUSED_ENTRY, 0, 0, 0, 0, 0) && untouched());
+    }
+    { /* No two of these are equal. */
+        const size_t m = 257, n = 5, confidences_length = 6, labels_length = 7, weights_length = 8, columns_length = 9, kept_length = 10;
+        const size_t numbers_length = 11, indices_length = 12, limit = 13;
+        const uint64_t seed = 14;
+        const uint32_t edition = 2, rule = 1;
+        const double allowance = 0.5;
+        lend();
+        hold("knob_thin_votes, refused", answers(CALL_knob_thin_votes, KNOB_REFUSED_SIZE, 0, 0, 0, 0, 0) && untouched());
+    }
+    { /* Nor of these: too many rows. */
+        const size_t m = 3, n = 4097, confidences_length = 6, labels_length = 7, weights_length = 8, columns_length = 9, kept_length = 10;
+        const size_t numbers_length = 11, indices_length = 12, limit = 13;
+        const uint64_t seed = 14;
+        const uint32_t edition = 2, rule = 1;
+        const double allowance = 0.5;
+        lend();
+        hold("knob_thin_votes, too many rows", answers(CALL_knob_thin_votes, KNOB_REFUSED_SIZE, 0, 0, 0, 0, 0) && untouched());
+    }
+}
+
 static void discrepancy_coloring(void) {
     const double *matrix = matrix_room;
     double *numbers = numbers_room;
@@ -497,6 +604,7 @@ int main(void) {
     sparsify();
     sparsify_within();
     thin_all();
+    thin_votes();
     discrepancy_coloring();
     margins();
     moved();

@@ -59,7 +59,8 @@ double knob_cos_draw_2(uint64_t word); /* by edition 2 */
 
    A matrix of m columns and n rows is one array of m*n doubles, column after column: entry (row i, column j) is matrix[j*n + i].
    At most KNOB_MAX_COLUMNS columns and KNOB_MAX_ROWS rows. Every array is a pointer and then the number of its elements. No pointer may be
-   null, also where the number is 0, and no array that is written (output, numbers, indices, answer, *change, *count) may overlap another.
+   null, also where the number is 0, and no array that is written (output, columns, kept, numbers, indices, answer, *change, *count) may
+   overlap another.
 
    Scratch is lent by the caller and may hold anything before the call:
      numbers: at least m*(n+1) + m*m + 16*m + 8*(n+1) doubles    (KNOB_NUMBERS)
@@ -67,7 +68,7 @@ double knob_cos_draw_2(uint64_t word); /* by edition 2 */
    An accepted call leaves all of both zero, whatever their length. Matrix and weights are never changed.
 
    Each call answers a number: 0 accepted, else the first below that applies and that the call uses (enum knob_number has names).
-   The order is that of the tests: 12 stands between 1 and 2, and 13 between 2 and 3.
+   The order is that of the tests: 12 stands between 1 and 2, 13 between 2 and 3, and 14 between 6 and 7.
 
      no.  given exactly when                                                      sparsify  within  coloring  change, turned
       1   the allowance is negative or a NaN (-0.0 is accepted)                                x
@@ -79,6 +80,7 @@ double knob_cos_draw_2(uint64_t word); /* by edition 2 */
           than m and n say
       5   m = 0 or n = 0                                                             x         x
       6   a scratch is too short                                                     x         x        x
+     14   a label is neither 1 nor -1: knob_thin_votes alone, which says what else it refuses
       7   a matrix entry is not in [-1, 1]; a NaN is not                             x         x
       8   a weight is not finite                                                     x         x
       9   the sum of the weights' magnitudes, in doubles, is 0 or infinite           x         x
@@ -109,6 +111,7 @@ enum knob_number {
     KNOB_REFUSED_COLORING_ENTRY = 11,
     KNOB_REFUSED_INFINITE_ALLOWANCE = 12,
     KNOB_REFUSED_EDITION = 13,
+    KNOB_REFUSED_LABEL = 14,
     KNOB_REFUSED_BUFFER = 16
 };
 
@@ -182,6 +185,22 @@ knob_answers knob_thin_all(const double *matrix, size_t matrix_length, size_t m,
                            const double *allowances, size_t allowances_length, const uint64_t *limits, size_t limits_length,
                            double *output, size_t output_length,
                            double *numbers, size_t numbers_length, uint32_t *indices, size_t indices_length);
+#endif
+
+/* Thins from votes: confidences[j*n + i] is how sure hypothesis j is of word i, in [-1, 1], labels[i] says what word i is, 1 or -1, and the
+   margin of each is the label times the confidence. The rule is named by a number, 0 for a target, 1 for an allowance without a cap, 2 for
+   an allowance with a cap; limit is the target or the cap, and what a rule does not use is not looked at. Another number is refused by 2.
+   The answer is that of the job on the matrix of margins. The columns that are left, those whose weight is not 0, are written to columns by
+   their numbers, from 0 and rising, and their weights to kept, at the fronts of both; zeros stand behind them. There are answer.nonzeros.
+
+   Refusals 1, 12, 2, 13, 3, 4, 5, 6, 14, 7, 8, 9, the first in this order: 4 also where labels_length is not n, or columns_length or
+   kept_length is not m; 14 a label that is neither 1 nor -1; 7 a confidence that is not in [-1, 1]. A refusal writes nothing. */
+#if !defined(__aarch64__) /* there, see the end */
+knob_answer knob_thin_votes(const double *confidences, size_t confidences_length, const int8_t *labels, size_t labels_length,
+                            size_t m, size_t n, const double *weights, size_t weights_length, uint64_t seed, uint32_t edition,
+                            uint32_t rule, double allowance, size_t limit,
+                            uint32_t *columns, size_t columns_length, double *kept, size_t kept_length,
+                            double *numbers, size_t numbers_length, uint32_t *indices, size_t indices_length);
 #endif
 
 /* A signing of the columns by 1 and -1 (m of them, written to output) that tries to keep every row's sum of entry times sign small.
@@ -261,7 +280,7 @@ uint64_t knob_moved_again(const double *matrix, size_t matrix_length, size_t m, 
 
 #if defined(__aarch64__)
 /* On Arm the archive's calls write a record through an address, their first parameter, which is not how C returns one there. So the
-   four are declared as they are, and each name then stands for a function of the form above. */
+   five are declared as they are, and each name then stands for a function of the form above. */
 knob_colored *knob_discrepancy_coloring(knob_colored *answer, const double *matrix, size_t matrix_length, size_t m, size_t n, uint64_t seed,
                                         int8_t *output, size_t output_length,
                                         double *numbers, size_t numbers_length, uint32_t *indices, size_t indices_length);
@@ -281,6 +300,13 @@ knob_answers *knob_thin_all(knob_answers *answer, const double *matrix, size_t m
                             const double *allowances, size_t allowances_length, const uint64_t *limits, size_t limits_length,
                             double *output, size_t output_length,
                             double *numbers, size_t numbers_length, uint32_t *indices, size_t indices_length);
+
+knob_answer *knob_thin_votes(knob_answer *answer, const double *confidences, size_t confidences_length,
+                             const int8_t *labels, size_t labels_length, size_t m, size_t n,
+                             const double *weights, size_t weights_length, uint64_t seed, uint32_t edition,
+                             uint32_t rule, double allowance, size_t limit,
+                             uint32_t *columns, size_t columns_length, double *kept, size_t kept_length,
+                             double *numbers, size_t numbers_length, uint32_t *indices, size_t indices_length);
 
 static inline knob_colored knob_discrepancy_coloring_returned(const double *matrix, size_t matrix_length, size_t m, size_t n, uint64_t seed,
                                                               int8_t *output, size_t output_length,
@@ -324,10 +350,23 @@ static inline knob_answers knob_thin_all_returned(const double *matrix, size_t m
                           output, output_length, numbers, numbers_length, indices, indices_length);
 }
 
+static inline knob_answer knob_thin_votes_returned(const double *confidences, size_t confidences_length,
+                                                   const int8_t *labels, size_t labels_length, size_t m, size_t n,
+                                                   const double *weights, size_t weights_length, uint64_t seed, uint32_t edition,
+                                                   uint32_t rule, double allowance, size_t limit,
+                                                   uint32_t *columns, size_t columns_length, double *kept, size_t kept_length,
+                                                   double *numbers, size_t numbers_length, uint32_t *indices, size_t indices_length) {
+    knob_answer answer;
+    return *knob_thin_votes(&answer, confidences, confidences_length, labels, labels_length, m, n, weights, weights_length, seed, edition,
+                            rule, allowance, limit, columns, columns_length, kept, kept_length, numbers, numbers_length,
+                            indices, indices_length);
+}
+
 #define knob_discrepancy_coloring knob_discrepancy_coloring_returned
 #define knob_sparsify knob_sparsify_returned
 #define knob_sparsify_within knob_sparsify_within_returned
 #define knob_thin_all knob_thin_all_returned
+#define knob_thin_votes knob_thin_votes_returned
 #endif
 
 #ifdef __cplusplus

@@ -1,4 +1,4 @@
-// needs: knob_discrepancy_coloring knob_sparsify knob_sparsify_within knob_thin_all knob_max_margin_change knob_turned_words knob_thin_sheet knob_moved knob_moved_again knob_write_sheet knob_read_sheet knob_salvage
+// needs: knob_discrepancy_coloring knob_sparsify knob_sparsify_within knob_thin_all knob_thin_votes knob_max_margin_change knob_turned_words knob_thin_sheet knob_moved knob_moved_again knob_write_sheet knob_read_sheet knob_salvage
 //! The stack that each call uses, at the largest sizes: the stack below a call is painted before it, and what is left of the paint is
 //! counted after it. The lent scratch is all else that a call may use, so this is its whole memory. The calls that answer a sheet
 //! or save one have their scratch on the stack too, and so may use twice as much.
@@ -19,6 +19,8 @@ mod moved_calls;
 mod tally;
 #[path = "shared/thinning_calls.rs"]
 mod thinning_calls;
+#[path = "shared/votes_call.rs"]
+mod votes_call;
 
 use chance::Chance;
 use std::hint::black_box;
@@ -178,6 +180,35 @@ fn all() -> Tally {
             indices.1,
         );
         answers.number + answers.items[0].number + answers.items[1].number
+    });
+    let (labels, mut columns, mut kept) = (vec![-1i8; n], vec![0u32; m], vec![0.0; m]);
+    measure("thin_votes", ALLOWED, &mut tally, || unsafe {
+        let (numbers, indices) = (numbers_at, indices_at);
+        votes_call::knob_thin_votes(
+            &mut answer,
+            lent,
+            length,
+            labels.as_ptr(),
+            n,
+            m,
+            n,
+            weights.as_ptr(),
+            m,
+            1,
+            2,
+            2,
+            0.1,
+            4,
+            columns.as_mut_ptr(),
+            m,
+            kept.as_mut_ptr(),
+            m,
+            numbers.0,
+            numbers.1,
+            indices.0,
+            indices.1,
+        );
+        answer.number
     });
     let (before, after) = (weights.as_ptr(), output.as_ptr());
     measure("max_margin_change", ALLOWED, &mut tally, || unsafe {

@@ -4,6 +4,7 @@ use batch::thin_all;
 use discrepancy::Colored;
 use discrepancy::discrepancy_coloring;
 use draw::SplitMix64;
+use faults::named_rule;
 use margins::max_margin_change;
 use margins::turned_words;
 use moving::moved;
@@ -12,8 +13,10 @@ use rules::Cap;
 use salvaging::salvage;
 use sheet::thin_sheet;
 use sparsification::Answer;
+use sparsification::Job;
 use sparsification::sparsify;
 use sparsification::sparsify_within;
+use voting::thin_votes;
 use writing::read_sheet;
 use writing::write_sheet;
 ghost use mathlib.Core.Path.{_≡_};
@@ -27,6 +30,8 @@ ghost use Rattle.knobthistle.specs.Caps.{capOf};
 ghost use Rattle.sparsification.specs.Answers.{Thinned};
 ghost use Rattle.batch.specs.Items.{listed};
 ghost use Rattle.batch.specs.All.{ThinnedAll};
+ghost use Rattle.faults.specs.Faults.{ruleNamed};
+ghost use Rattle.voting.specs.Votes.{VotesThinned};
 ghost use Rattle.rules.specs.declared.Rule.the-variants.{Target, Within};
 ghost use Rattle.margins.specs.Answers.{changeAnswer, turnedAnswer};
 ghost use Rattle.sheet.specs.Answer.{Answered};
@@ -306,6 +311,46 @@ pub extern "C" fn knob_thin_all(
         allowances,
         limits,
         output,
+        numbers,
+        indices,
+    )
+}
+
+// Thins the columns of margins, label times confidence, and packs what is left: the kept columns' numbers and their weights.
+#[no_mangle]
+pub extern "C" fn knob_thin_votes(
+    confidences: &[f64],
+    labels: &[i8],
+    m: usize,
+    n: usize,
+    weights: &[f64],
+    seed: u64,
+    edition: u32,
+    rule: u32,
+    allowance: f64,
+    limit: usize,
+    columns: &mut [u32],
+    kept: &mut [f64],
+    numbers: &mut [f64],
+    indices: &mut [u32],
+) -> Answer
+    ensures { λ r. ⌜ VotesThinned (ruleNamed rule allowance limit) (seeded seed edition) (now (confidences .entry))
+        (now (labels .entry)) m n (now (weights .entry)) (now (columns .entry)) (now (kept .entry)) (now (numbers .entry))
+        (now (indices .entry)) r (now (columns .exit)) (now (kept .exit)) (now (numbers .exit)) (now (indices .exit)) ⌝ }
+{
+    thin_votes(
+        confidences,
+        labels,
+        m,
+        n,
+        weights,
+        Job {
+            seed,
+            edition,
+            rule: named_rule(rule, allowance, limit),
+        },
+        columns,
+        kept,
         numbers,
         indices,
     )

@@ -19,6 +19,7 @@ from ._many import thin_many
 from ._margins import Moved, max_margin_change, moved, turned_words
 from ._refusal import Refusal
 from ._thinning import Stage, Thinned, thin
+from ._voting import Kept, thin_votes
 
-__all__ = ["Moved", "Refusal", "Stage", "Thinned", "max_margin_change", "moved", "thin", "thin_many", "turned_words"]
+__all__ = ["Kept", "Moved", "Refusal", "Stage", "Thinned", "max_margin_change", "moved", "thin", "thin_many", "thin_votes", "turned_words"]
 __version__ = "0.1.0"

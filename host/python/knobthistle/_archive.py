@@ -40,6 +40,11 @@ CALLS: dict[str, tuple[list[Any], Any]] = {
         [POINTER(Answer), *MATRIX, *ARRAY, c_uint64, c_uint32, c_double, c_uint32, c_size_t, *ARRAY, *ARRAY, *ARRAY],
         c_void_p,
     ),
+    "knob_thin_votes": (
+        [POINTER(Answer), *ARRAY, *ARRAY, c_size_t, c_size_t, *ARRAY, c_uint64, c_uint32, c_uint32, c_double, c_size_t]
+        + [*ARRAY, *ARRAY, *ARRAY, *ARRAY],
+        c_void_p,
+    ),
     "knob_max_margin_change": ([*MATRIX, *ARRAY, *ARRAY, POINTER(c_double)], c_uint64),
     "knob_turned_words": ([*MATRIX, *ARRAY, *ARRAY, *ARRAY, POINTER(c_uint64)], c_uint64),
     "knob_moved": ([*MATRIX, *ARRAY, *ARRAY, *ARRAY, *ARRAY], c_uint64),

@@ -46,6 +46,18 @@ def vector(values: ArrayLike, what: str) -> NDArray[np.float64]:
     return np.require(array, np.float64, ["C", "A"])
 
 
+def signed_bytes(values: ArrayLike, what: str) -> NDArray[np.int8]:
+    """A list of whole numbers of eight bits, bools as 1 and -1; others have no place in one."""
+    array = numbers(values, what)
+    if array.ndim != 1:
+        raise ValueError(f"{what}: a list is wanted, not an array of {array.ndim} axes")
+    if array.dtype == np.bool_:
+        array = np.where(array, 1, -1)
+    if not np.isin(array, np.arange(-128, 128)).all():
+        raise ValueError(f"{what}: whole numbers from -128 to 127 are wanted")
+    return array.astype(np.int8)
+
+
 def lent(array: NDArray[Any]) -> tuple[int, int]:
     """The address and the length of an array."""
     return array.ctypes.data, array.size

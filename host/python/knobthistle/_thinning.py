@@ -42,6 +42,20 @@ class Thinned:
     """Every stage from 0 to the one returned."""
 
 
+def path_of(answer: Answer) -> tuple[Stage, ...]:
+    """Every stage of an accepted answer from 0 to the one returned."""
+    stages = answer.stage + 1
+    return tuple(Stage(*stage) for stage in zip(answer.path_nonzeros[:stages], answer.path_change[:stages]))
+
+
+def one_rule(target: Optional[SupportsIndex], within: Optional[SupportsFloat], cap: Optional[SupportsIndex]) -> None:
+    """Raises where these name no rule."""
+    if (target is None) == (within is None):
+        raise TypeError("give target or within, and not both")
+    if cap is not None and within is None:
+        raise TypeError("a cap stands beside within")
+
+
 def thin(
     margins: ArrayLike,
     weights: ArrayLike,
@@ -61,10 +75,7 @@ def thin(
 
     Raises `Refusal`, which has a number, where the library refuses the job.
     """
-    if (target is None) == (within is None):
-        raise TypeError("give target or within, and not both")
-    if cap is not None and within is None:
-        raise TypeError("a cap stands beside within")
+    one_rule(target, within, cap)
     entries, given = matrix(margins), vector(weights, "weights")
     output = np.empty(entries.shape[1])
     places, indices = scratch(entries)
@@ -77,7 +88,6 @@ def thin(
         capped = cap is not None
         library.knob_sparsify_within(*first, float(within), int(capped), word(cap, "cap") if capped else 0, *last)
     check(answer.number)
-    path = zip(answer.path_nonzeros[: answer.stage + 1], answer.path_change[: answer.stage + 1])
     return Thinned(
         weights=output,
         kept=np.flatnonzero(output),
@@ -86,5 +96,5 @@ def thin(
         change=answer.change,
         directions=answer.directions,
         sweeps=answer.sweeps,
-        path=tuple(Stage(*stage) for stage in path),
+        path=path_of(answer),
     )

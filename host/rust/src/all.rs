@@ -2,7 +2,7 @@
 
 use crate::archive::{knob_thin_all, Answer, Answers, MAX_ITEMS};
 use crate::lent::{Matrix, Scratch};
-use crate::thinning::{answered, Job, Rule, Thinned};
+use crate::thinning::{answered, Job, Thinned};
 use crate::Refusal;
 use std::thread;
 
@@ -56,15 +56,6 @@ fn fit(matrix: &Matrix, items: &[Item]) -> bool {
     items.len() <= MAX_ITEMS && items.iter().all(|item| item.weights.len() == matrix.m)
 }
 
-/// The number, the allowance and the limit by which the archive has a rule; what a rule does not use is 0.
-fn named(rule: Rule) -> (u32, f64, u64) {
-    match rule {
-        Rule::Target(target) => (0, 0.0, target as u64),
-        Rule::Within { allowance, cap: None } => (1, allowance, 0),
-        Rule::Within { allowance, cap: Some(cap) } => (2, allowance, cap as u64),
-    }
-}
-
 /// One call of the archive. Items that do not fit are not copied: it is lent weights of another length than it has to have, and says
 /// itself which number is the lowest.
 fn one_call(matrix: &Matrix, items: &[Item]) -> Result<Vec<Result<Thinned, Refusal>>, Refusal> {
@@ -76,10 +67,10 @@ fn one_call(matrix: &Matrix, items: &[Item]) -> Result<Vec<Result<Thinned, Refus
     };
     let seeds: Vec<u64> = items.iter().map(|item| item.job.seed).collect();
     let editions: Vec<u32> = items.iter().map(|item| item.job.edition as u32).collect();
-    let rules: Vec<(u32, f64, u64)> = items.iter().map(|item| named(item.job.rule)).collect();
+    let rules: Vec<(u32, f64, usize)> = items.iter().map(|item| item.job.rule.named()).collect();
     let numbers_of: Vec<u32> = rules.iter().map(|rule| rule.0).collect();
     let allowances: Vec<f64> = rules.iter().map(|rule| rule.1).collect();
-    let limits: Vec<u64> = rules.iter().map(|rule| rule.2).collect();
+    let limits: Vec<u64> = rules.iter().map(|rule| rule.2 as u64).collect();
     let mut output = vec![0.0; weights.len()];
     let mut scratch = Scratch::new(matrix);
     let mut answers = Answers { number: 0, items: [Answer::default(); MAX_ITEMS] };

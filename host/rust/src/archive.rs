@@ -115,6 +115,31 @@ extern "C" {
         indices_length: usize,
     ) -> *mut Answers;
 
+    pub fn knob_thin_votes(
+        answer: *mut Answer,
+        confidences: *const f64,
+        confidences_length: usize,
+        labels: *const i8,
+        labels_length: usize,
+        m: usize,
+        n: usize,
+        weights: *const f64,
+        weights_length: usize,
+        seed: u64,
+        edition: u32,
+        rule: u32,
+        allowance: f64,
+        limit: usize,
+        columns: *mut u32,
+        columns_length: usize,
+        kept: *mut f64,
+        kept_length: usize,
+        numbers: *mut f64,
+        numbers_length: usize,
+        indices: *mut u32,
+        indices_length: usize,
+    ) -> *mut Answer;
+
     pub fn knob_discrepancy_coloring(
         answer: *mut Colored,
         matrix: *const f64,

@@ -40,8 +40,8 @@
 //! draws, the values of the module `sparsification` of miniboosts; where that panics they give a [`Refusal`]. Their values stay plain
 //! weights, not records, so that code written for that module goes on working behind a `?`. [`thin`] gives the whole answer: weights,
 //! stage, nonzeros, change, how much was drawn and swept, and the path, and [`thin_all`] does so for up to [`MAX_ITEMS`] weight vectors over
-//! the same columns. Where the panics are wanted too, the module [`sparsification`] has the very signatures, and a host changes its `use`
-//! line alone.
+//! the same columns; [`thin_votes`] takes labels and confidences, and gives the columns that are kept. Where the panics are wanted too,
+//! the module [`sparsification`] has the very signatures, and a host changes its `use` line alone.
 //!
 //! The draws are not the same: that module takes the platform's logarithm and cosine, this library one rule for every machine. Beside
 //! that module as it ships, of thinnings to 4 weights with entries 1 and -1, 34 of 20,000 with 32 columns and 64 rows came out otherwise
@@ -70,6 +70,7 @@ mod salvaging;
 mod sheets;
 pub mod sparsification;
 mod thinning;
+mod voting;
 
 pub use all::{thin_all, Item};
 pub use answering::thin_sheet;
@@ -83,6 +84,7 @@ pub use refusal::Refusal;
 pub use salvaging::salvage;
 pub use sheets::{read_sheet, write_sheet, Sheet};
 pub use thinning::{sparsify, sparsify_within, thin, Edition, Job, Rule, Thinned};
+pub use voting::{thin_votes, Kept};
 
 /// The version of the archive: of its three figures, 1000000 times the first, 1000 times the second, and the third. It is this crate's.
 ///

@@ -18,12 +18,14 @@ pub enum Refusal {
     Edition = 13,
     /// 3: more than 256 columns or more than 4096 rows.
     Size = 3,
-    /// 4: the columns differ in length, or there is not one weight for each column.
+    /// 4: the columns differ in length, or there is not one weight for each column, or not one label for each row.
     Length = 4,
     /// 5: no column or no row.
     Empty = 5,
     /// 6: a scratch is too short. This crate lends enough, so none of its calls gives it.
     Scratch = 6,
+    /// 14: a label of [`crate::thin_votes`] is neither 1 nor -1.
+    Label = 14,
     /// 7: an entry is not in [-1, 1]; a NaN is not.
     Entry = 7,
     /// 8: a weight, or a threshold of [`crate::turned_words`], is not finite.
@@ -38,7 +40,7 @@ pub enum Refusal {
 
 impl Refusal {
     /// Every refusal, in the order of the tests.
-    pub const ALL: [Refusal; 13] = [
+    pub const ALL: [Refusal; 14] = [
         Refusal::Allowance,
         Refusal::InfiniteAllowance,
         Refusal::Zero,
@@ -47,6 +49,7 @@ impl Refusal {
         Refusal::Length,
         Refusal::Empty,
         Refusal::Scratch,
+        Refusal::Label,
         Refusal::Entry,
         Refusal::Weight,
         Refusal::Sum,
@@ -54,7 +57,7 @@ impl Refusal {
         Refusal::Buffer,
     ];
 
-    /// The number, 1 to 13 or 16; 10 is used for nothing.
+    /// The number, 1 to 14 or 16; 10 is used for nothing.
     pub fn number(self) -> u64 {
         self as u64
     }
@@ -77,9 +80,10 @@ impl fmt::Display for Refusal {
             Refusal::Zero => "the target or the cap is 0",
             Refusal::Edition => "the edition is neither 1 nor 2",
             Refusal::Size => "there are more than 256 columns or more than 4096 rows",
-            Refusal::Length => "the columns differ in length, or there is not one weight for each column",
+            Refusal::Length => "the columns differ in length, or there is not one weight for each column or one label for each row",
             Refusal::Empty => "there is no column or no row",
             Refusal::Scratch => "a scratch is too short",
+            Refusal::Label => "a label is neither 1 nor -1",
             Refusal::Entry => "an entry is not in [-1, 1]",
             Refusal::Weight => "a weight or a threshold is not finite",
             Refusal::Sum => "the sum of the weights' magnitudes is 0 or infinite",

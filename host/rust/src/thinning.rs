@@ -21,6 +21,17 @@ pub enum Rule {
     },
 }
 
+impl Rule {
+    /// The number, the allowance and the limit by which the archive has a rule; what a rule does not use is 0.
+    pub(crate) fn named(self) -> (u32, f64, usize) {
+        match self {
+            Rule::Target(target) => (0, 0.0, target),
+            Rule::Within { allowance, cap: None } => (1, allowance, 0),
+            Rule::Within { allowance, cap: Some(cap) } => (2, allowance, cap),
+        }
+    }
+}
+
 /// Which number an output of the generator becomes.
 #[derive(Clone, Copy, Debug, Default, PartialEq, Eq, Hash)]
 pub enum Edition {
@@ -67,8 +78,8 @@ pub struct Thinned {
 ///
 /// # Errors
 ///
-/// Every [`Refusal`] but [`Refusal::Scratch`] and [`Refusal::ColoringEntry`]; [`Refusal::Allowance`] and [`Refusal::InfiniteAllowance`]
-/// only where the rule has an allowance.
+/// Every [`Refusal`] but [`Refusal::Scratch`], [`Refusal::Label`] and [`Refusal::ColoringEntry`]; [`Refusal::Allowance`] and
+/// [`Refusal::InfiniteAllowance`] only where the rule has an allowance.
 pub fn thin(columns: &[Vec<f64>], weights: &[f64], job: Job) -> Result<Thinned, Refusal> {
     thin_matrix(&Matrix::new(columns), weights, job)
 }
