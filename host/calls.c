@@ -554,6 +554,22 @@ static void thin_sheet(void) {
     hold("knob_thin_sheet", memcmp(answer_room, expected, sizeof expected - 1) == 0);
 }
 
+/* C1's sheet, with which word moved. */
+static void moved_sheet(void) {
+    static const char sheet[] = "thin\t2\t2\t0000000000000000\twithin\t3FE0000000000000\t-\n"
+                                "col\t3FF0000000000000\t3FF0000000000000\t3FF0000000000000\n"
+                                "col\t4008000000000000\t3FF0000000000000\tBFF0000000000000\n";
+    static const char expected[] = "ok\t1\t1\t3FE0000000000000\nw\t0\t0000000000000000\nw\t1\t3FF0000000000000\n"
+                                   "word\t1\t3FE0000000000000\nword\t0\t0000000000000000\n\x5A";
+    const uint8_t *text = text_room;
+    uint8_t *answer = answer_room;
+    const size_t text_length = sizeof sheet - 1, answer_length = KNOB_MOVED_ANSWER;
+    memcpy(text_room, sheet, sizeof sheet);
+    lend();
+    hold("knob_moved_sheet, its length", CALL_knob_moved_sheet == sizeof expected - 2);
+    hold("knob_moved_sheet", memcmp(answer_room, expected, sizeof expected - 1) == 0);
+}
+
 /* A sheet of edition 2 with a cap, written, and read back; every number in it is another. */
 static void written_and_read(void) {
     static const char sheet[] = "thin\t2\t3\t0123456789ABCDEF\twithin\tFFF0000000000007\t19\t2\n"
@@ -609,6 +625,7 @@ int main(void) {
     margins();
     moved();
     thin_sheet();
+    moved_sheet();
     written_and_read();
     salvage();
     return wrong;

@@ -1,4 +1,4 @@
-// needs: knob_gaussian knob_gaussian_2 knob_sparsify knob_sparsify_within knob_thin_sheet
+// needs: knob_gaussian knob_gaussian_2 knob_sparsify knob_sparsify_within knob_thin_sheet knob_moved_sheet
 //! Sheets: the answers of the archive's call on sheets, byte for byte, against answers written by hand, against a second reader and
 //! writer of the form with the original's answer, and against the archive's own thinning calls; good sheets, refused ones, and sheets
 //! with each kind of fault in some line. Buffers that are too short must stay as they were, and so must all that lies beyond an answer.
@@ -33,10 +33,12 @@ use thinning_calls::{knob_sparsify, knob_sparsify_within, Answer};
 
 extern "C" {
     fn knob_thin_sheet(text: *const u8, text_len: usize, answer: *mut u8, answer_len: usize) -> usize;
+    fn knob_moved_sheet(text: *const u8, text_len: usize, answer: *mut u8, answer_len: usize) -> usize;
 }
 
-/// The bytes that every answer fits in.
+/// The bytes that every answer fits in, and every one with its words.
 const ENOUGH: usize = 1342;
+const ENOUGH_WITH_WORDS: usize = 4094;
 
 /// A count: decimal, no leading zero but `0` itself, at most 4294967295.
 fn a_count(field: &[u8]) -> Option<usize> {
@@ -114,6 +116,16 @@ fn accepted(stage: u64, nonzeros: u64, change: f64, weights: &[f64]) -> String {
         text += &format!("w\t{j}\t{:016X}\n", w.to_bits());
     }
     text
+}
+
+/// The lines of the words that moved from the normalized weights to those of an answer's text.
+fn words(e: &Ensemble, answer: &str) -> String {
+    let after: Vec<f64> = answer.lines().skip(1).filter_map(|line| bits(line.rsplit('\t').next()?.as_bytes())).map(f64::from_bits).collect();
+    let total = e.weights.iter().fold(0.0, |sum, w| sum + w.abs());
+    let change = |i: usize| (0..e.m).fold(0.0, |sum, j| sum + e.matrix[j * e.n + i] * (e.weights[j] / total - after[j]));
+    let mut rows: Vec<(usize, f64)> = (0..e.n).map(|i| (i, change(i))).collect();
+    rows.sort_by(|x, y| y.1.abs().total_cmp(&x.1.abs()));
+    rows.iter().map(|(i, change)| format!("word\t{i}\t{:016X}\n", change.to_bits())).collect()
 }
 
 /// The answer to a job by the original.
@@ -208,8 +220,16 @@ fn call(sheet: &Sheet, room: usize, chance: &mut Chance) -> (usize, Lent<u8>) {
     (said, answer)
 }
 
+/// The same of the call that answers with the words.
+fn call_moved(sheet: &Sheet, room: usize, chance: &mut Chance) -> (usize, Lent<u8>) {
+    let mut answer = Lent::new(room, || chance.word() as u8);
+    let said = unsafe { knob_moved_sheet(sheet.text().as_ptr(), sheet.len, answer.lend(), room) };
+    (said, answer)
+}
+
 struct Comparison {
     domain: Domain,
+    moved: Tally,
     by_hand: Tally,
     good: Tally,
     refused: Tally,
@@ -264,6 +284,20 @@ impl Comparison {
         if let Ok((e, rule)) = &read {
             let called = by_calls(e, *rule);
             self.calls.note(called == expected, || format!("the calls say {called:?}, the sheet {expected:?}, for {}", shown()));
+        }
+
+        // One in eight with its words, in a buffer that is long enough and in one that is a byte too short.
+        if chance.below(8) == 0 {
+            let mut expected = expected;
+            if let (Ok((e, _)), true) = (&read, expected.starts_with("ok")) {
+                expected += &words(e, &expected);
+            }
+            let long = expected.len();
+            let room = chance.between(long, ENOUGH_WITH_WORDS);
+            let (said, answer) = call_moved(&sheet, room, chance);
+            let right = said == long && &answer.content()[..long] == expected.as_bytes() && answer.kept_from(long);
+            let (said, answer) = call_moved(&sheet, long - 1, chance);
+            self.moved.note(right && said == 0 && answer.untouched(), || format!("expected {expected:?}, for {}", shown()));
         }
         read.is_err()
     }
@@ -526,6 +560,7 @@ fn main() {
     let mut chance = Chance::new("sheets", 6);
     let mut all = Comparison {
         domain: Domain::new(),
+        moved: Tally::new("sheets, with the words that moved"),
         by_hand: Tally::new("sheets, answers by hand"),
         good: Tally::new("sheets, accepted"),
         refused: Tally::new("sheets, refused"),
@@ -569,5 +604,5 @@ fn main() {
         all.test(&sheet, &mut chance);
     }
     all.domain.tell();
-    end(&[&all.by_hand, &all.good, &all.refused, &all.bad, &all.calls, &all.short, &all.beyond, &all.sheets, &all.faults])
+    end(&[&all.by_hand, &all.good, &all.refused, &all.bad, &all.calls, &all.short, &all.beyond, &all.sheets, &all.faults, &all.moved])
 }

@@ -1,4 +1,4 @@
-// needs: knob_discrepancy_coloring knob_sparsify knob_sparsify_within knob_thin_all knob_thin_votes knob_max_margin_change knob_turned_words knob_thin_sheet knob_moved knob_moved_again knob_write_sheet knob_read_sheet knob_salvage
+// needs: knob_discrepancy_coloring knob_sparsify knob_sparsify_within knob_thin_all knob_thin_votes knob_max_margin_change knob_turned_words knob_thin_sheet knob_moved_sheet knob_moved knob_moved_again knob_write_sheet knob_read_sheet knob_salvage
 //! The stack that each call uses, at the largest sizes: the stack below a call is painted before it, and what is left of the paint is
 //! counted after it. The lent scratch is all else that a call may use, so this is its whole memory. The calls that answer a sheet
 //! or save one have their scratch on the stack too, and so may use twice as much.
@@ -28,6 +28,7 @@ use tally::{end, Tally};
 
 extern "C" {
     fn knob_thin_sheet(text: *const u8, text_length: usize, answer: *mut u8, answer_length: usize) -> usize;
+    fn knob_moved_sheet(text: *const u8, text_length: usize, answer: *mut u8, answer_length: usize) -> usize;
     fn knob_salvage(text: *const u8, text_length: usize, answer: *mut u8, answer_length: usize) -> usize;
 
     fn knob_write_sheet(
@@ -235,6 +236,11 @@ fn all() -> Tally {
     let mut said = vec![0u8; 1342];
     measure("thin_sheet", 2 * ALLOWED, &mut tally, || {
         let end = unsafe { knob_thin_sheet(text.as_ptr(), text.len(), said.as_mut_ptr(), said.len()) };
+        u64::from(!said[..end].starts_with(b"ok\t"))
+    });
+    let mut said = vec![0u8; 4094];
+    measure("moved_sheet", 2 * ALLOWED, &mut tally, || {
+        let end = unsafe { knob_moved_sheet(text.as_ptr(), text.len(), said.as_mut_ptr(), said.len()) };
         u64::from(!said[..end].starts_with(b"ok\t"))
     });
     let (mut bits, mut few, mut first, mut room) = (vec![0u64; 2048], vec![0u64; 32], vec![0u64; 7], vec![0u8; 35572]);

@@ -17,6 +17,7 @@ use sparsification::Job;
 use sparsification::sparsify;
 use sparsification::sparsify_within;
 use voting::thin_votes;
+use words::moved_sheet;
 use writing::read_sheet;
 use writing::write_sheet;
 ghost use mathlib.Core.Path.{_≡_};
@@ -40,6 +41,7 @@ ghost use Rattle.salvaging.specs.Saved.{salvaged, Laid};
 ghost use Rattle.writing.specs.Writing.{WroteFor};
 ghost use Rattle.writing.specs.ReadingBack.{ReadBack};
 ghost use Rattle.moving.specs.Answers.{Listed};
+ghost use Rattle.words.specs.Words.{movedAnswer};
 
 // The version of the library: that of the file VERSION.
 #[no_mangle]
@@ -454,4 +456,13 @@ pub extern "C" fn knob_moved_again(
         r (now (rows .exit)) (now (changes .exit)) ⌝ }
 {
     moved_again(matrix, m, n, before, after, rows, changes)
+}
+
+// The answer of a sheet with a line for each word that moved, in a lent buffer: its length, or 0 where it does not fit, which leaves the
+// buffer as it was.
+#[no_mangle]
+pub extern "C" fn knob_moved_sheet(text: &[u8], answer: &mut [u8]) -> usize
+    ensures { λ r. ⌜ Laid (movedAnswer (now (text .entry))) (now (answer .entry)) r (now (answer .exit)) ⌝ }
+{
+    moved_sheet(text, answer)
 }

@@ -120,7 +120,7 @@ pub sole-answer : {t answer : List ℕ} {r s : ℕ} {one two : List ℕ} → Ans
 sole-answer p q = (p .says ∙ sym (q .says), p .writes ∙ sym (q .writes))
 
 -- how long a job's answer can be
-length-answer : (s : Answer) (w : List Float) → length w ≤ 32 → length (answerText s w) ≤ 1342
+pub length-answer : (s : Answer) (w : List Float) → length w ≤ 32 → length (answerText s w) ≤ 1342
 unfolding answerText
 length-answer s w h = go (eqb (s .number) 0)
   where
@@ -132,7 +132,7 @@ length-returned : (u : List Float) (n : ℕ) (w : List Float) (source : SplitMix
 length-returned u n w source rule =
     length-stage plusZero (columnsOf u n) n (normalized plusZero w) source (stopFor u n w source rule) ∙ length-normalized plusZero w
 
-length-job : (t : List ℕ) (h : Head) → h .m ≤ 32 → length (jobText (h .rule) (sourceOf h) (matrixOf t h) (h .m) (h .n) (weightsOf t h)) ≤ 1342
+pub length-job : (t : List ℕ) (h : Head) → h .m ≤ 32 → length (jobText (h .rule) (sourceOf h) (matrixOf t h) (h .m) (h .n) (weightsOf t h)) ≤ 1342
 length-job t h g =
     length-answer (jobAnswer (h .rule) (sourceOf h) (matrixOf t h) (h .m) (h .n) (weightsOf t h))
     (returned (matrixOf t h) (h .n) (weightsOf t h) (sourceOf h) (h .rule) .w)

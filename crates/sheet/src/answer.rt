@@ -27,7 +27,7 @@ fn pattern(x: f64) -> u64
 }
 
 // Writes bits and a newline.
-fn put_last(out: &mut [u8], at: usize, x: f64) -> usize
+pub fn put_last(out: &mut [u8], at: usize, x: f64) -> usize
     requires { ⌜ at + 17 ≤ length (now out) ⌝ }
     ensures { λ r. ⌜ WroteOn (bitsText (toBits binary64 x) ++ (newline ∷ [])) at (now (out .entry)) r (now (out .exit)) ⌝ }
 {

@@ -1,7 +1,8 @@
 // The sheet: from the bytes of a job to the bytes of its answer.
 mod answer;
 
-use crate::answer::put_answer;
+pub use crate::answer::put_answer;
+pub use crate::answer::put_last;
 use fields::copy_bytes;
 use fields::put_note;
 use form::read_matrix;

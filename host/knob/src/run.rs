@@ -13,6 +13,7 @@ type Call = fn(&[u8]) -> Vec<u8>;
 pub fn answered(program: &str) -> Result<(), Trouble> {
     let (call, most): (Call, u64) = match program {
         "thin" => (knobthistle::thin_sheet, MOST),
+        "moved" => (knobthistle::moved_sheet, MOST),
         "salvage" => (knobthistle::salvage, u64::MAX),
         _ => return Err(Trouble::Cannot(format!("there is no program {program} to run"))),
     };

@@ -242,4 +242,6 @@ extern "C" {
     pub fn knob_salvage(text: *const u8, text_length: usize, answer: *mut u8, answer_length: usize) -> usize;
 
     pub fn knob_thin_sheet(text: *const u8, text_length: usize, answer: *mut u8, answer_length: usize) -> usize;
+
+    pub fn knob_moved_sheet(text: *const u8, text_length: usize, answer: *mut u8, answer_length: usize) -> usize;
 }

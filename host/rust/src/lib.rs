@@ -73,7 +73,7 @@ mod thinning;
 mod voting;
 
 pub use all::{thin_all, Item};
-pub use answering::thin_sheet;
+pub use answering::{moved_sheet, thin_sheet};
 pub use archive::MAX_ITEMS;
 pub use coloring::{color, discrepancy_coloring, Coloring};
 pub use draws::{cos_draw, log_draw, sqrt, SplitMix64};

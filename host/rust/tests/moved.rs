@@ -1,6 +1,7 @@
 //! Which word moved, by the safe calls: arguments that all differ, every refusal that they can reach, and lists that are brought up to date.
 
-use knobthistle::{max_margin_change, moved, Moved, Refusal, MAX_COLUMNS, MAX_ROWS};
+use knobthistle::{max_margin_change, moved, moved_sheet, thin, thin_sheet, write_sheet};
+use knobthistle::{Edition, Job, Moved, Refusal, Rule, Sheet, MAX_COLUMNS, MAX_ROWS};
 
 /// Entries from -1 to 1.
 fn columns(m: usize, n: usize) -> Vec<Vec<f64>> {
@@ -63,4 +64,22 @@ fn a_refusal_leaves_the_list() {
     let before = list.clone();
     assert_eq!(list.again(&columns, &weights(3, 1), &[0.0, 2.0, 0.0]), Err(Refusal::Weight));
     assert_eq!(list, before);
+}
+
+#[test]
+fn a_sheet_says_what_the_calls_say() {
+    let job = Job { seed: 3, edition: Edition::Second, rule: Rule::Target(2) };
+    let sheet = Sheet { columns: columns(7, 5), rows: 5, weights: weights(7, 2), job };
+    let text = write_sheet(&sheet).unwrap();
+    let sum = sheet.weights.iter().fold(0.0, |sum, weight| sum + f64::abs(*weight));
+    let start: Vec<f64> = sheet.weights.iter().map(|weight| weight / sum).collect();
+    let thinned = thin(&sheet.columns, &sheet.weights, job).unwrap();
+    let list = moved(&sheet.columns, &start, &thinned.weights).unwrap();
+    let mut expected = thin_sheet(&text);
+    for (row, change) in list.rows.iter().zip(&list.changes) {
+        expected.extend(format!("word\t{row}\t{:016X}\n", change.to_bits()).bytes());
+    }
+    assert!(thinned.stage > 0 && expected.starts_with(b"ok\t"));
+    assert_eq!(moved_sheet(&text), expected);
+    assert_eq!(moved_sheet(&text[1..]), b"bad\t1\n");
 }

@@ -1,0 +1,70 @@
+-- `words::answer_text` meets its contract: a wrong line is named, and a sheet with none has the sizes that its job asks for.
+use Rattle.sheet.proofs.Whole.{sizes-of, edition-known}
+use Rattle.words.proofs.Whole.{sheet-bad, sheet-good}
+use Rattle.fields.proofs.Widths.{width-most}
+use borrow.Author.Needs.{needs}
+use Prim.Native.Nat.{_-_}
+use native.Mathlib.Omega.{arith}
+use Rattle.words.proofs.answer_text.Statement.{statement}
+use Rattle.words.proofs.answer_text.Tie as tie
+
+wrong-line-requires : tie.Need-wrong-line-requires
+wrong-line-requires c κs = search needs
+
+slice-aggregate-put-note : tie.Need-slice-aggregate-put-note
+slice-aggregate-put-note c = search needs
+
+put-note-requires : tie.Need-put-note-requires
+put-note-requires c κs = omega (arith, width-most (c .before .before .before .wrong-line .result))
+
+same-length : tie.Need-same-length
+same-length c = search needs
+
+returns : tie.Need-returns
+returns c =
+    let at-put-note = c .before .before in
+    let at-if1 = at-put-note .before .before .before in
+    let at-wrong-line = at-if1 .before in
+    let at-start = at-wrong-line .before .before .before in
+    sheet-bad (at-start .args .text .now) (at-wrong-line .wrong-line .result) _ _ _ (at-wrong-line .wrong-line .ensures)
+    (at-if1 .if1 .taken) (at-put-note .put-note .ensures) (at-start .pre)
+
+head-of-requires : tie.Need-head-of-requires
+head-of-requires c κs = search needs
+
+answer-sheet-requires : tie.Need-answer-sheet-requires
+answer-sheet-requires c κs =
+    let at-if1 = c .before .before in
+    let at-wrong-line = at-if1 .before in
+    let at-start = at-wrong-line .before .before .before in
+    let s = sizes-of (at-start .args .text .now) (c .head-of .result) (at-wrong-line .wrong-line .result)
+    (at-wrong-line .wrong-line .ensures) (at-if1 .if1 .left) (c .head-of .ensures) in
+    (s .columns, s .rows, omega (arith, s .starts), at-start .pre, rw (c .head-of .ensures) (edition-known (at-start .args .text .now)))
+
+same-length-2 : tie.Need-same-length-2
+same-length-2 c = search needs
+
+returns-2 : tie.Need-returns-2
+returns-2 c =
+    let at-answer-sheet = c .before .before in
+    let at-head-of = at-answer-sheet .before in
+    let at-if1 = at-head-of .before .before in
+    let at-wrong-line = at-if1 .before in
+    let at-start = at-wrong-line .before .before .before in
+    sheet-good (at-start .args .text .now) (at-wrong-line .wrong-line .result) (at-head-of .head-of .result) _ _ _
+    (at-wrong-line .wrong-line .ensures) (at-if1 .if1 .left) (at-head-of .head-of .ensures)
+    (at-answer-sheet .answer-sheet .ensures)
+
+pub answer-text-spec : {M : Type 1} → statement M
+answer-text-spec =
+    tie.close
+    (tie.spec
+    wrong-line-requires
+    slice-aggregate-put-note
+    put-note-requires
+    same-length
+    returns
+    head-of-requires
+    answer-sheet-requires
+    same-length-2
+    returns-2)
