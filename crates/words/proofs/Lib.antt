@@ -2,3 +2,4 @@
 pub mod Listing
 pub mod Whole
 pub mod Promises
+pub mod Listed
