@@ -41,26 +41,26 @@ length-along t ax ag = length-tab _ (length ax)
 
 -- ---- A g beside A x, and both turned; k and m are as many as there are rows
 
-module _ (a : ℕ → ℕ → Float) (rows k m l : ℕ) (num g ys zs g' : List Float) (d : Float) where
+module _ (a : ℕ → ℕ → Float) (rows k m l : ℕ) (numbers g ys zs g' : List Float) (d : Float) where
   abbrev beside : List Float
-  beside = placed rows k num ys
+  beside = placed rows k numbers ys
 
-  pub downhill : k ≡ rows → m ≡ rows → rows + rows ≤ length num → length g ≡ l
-      → ys ≡ times plusZero a l (length (part rows k num)) g
+  pub downhill : k ≡ rows → m ≡ rows → rows + rows ≤ length numbers → length g ≡ l
+      → ys ≡ times plusZero a l (length (part rows k numbers)) g
       → d ≡ dotOf plusZero (part 0 m beside) (part rows k beside)
       → g' ≡ turned (lt plusZero d) g
       → zs ≡ turned (lt plusZero d) (part rows k beside)
-      → Downhill a rows num g (placed rows k beside zs) g'
+      → Downhill a rows numbers g (placed rows k beside zs) g'
   unfolding uphill
   downhill ek em room lg ey ed eg ez =
-      let lk : length (part rows k num) ≡ k = length-part rows k num (omega arith) in
-      let ly : length ys ≡ k = ap length ey ∙ length-tab _ (length (part rows k num)) ∙ lk in
-      let l1 : length beside ≡ length num = length-placed rows k num ys (omega arith) ly in
-      let p1 : part rows k beside ≡ ys = part-same rows k num ys (omega arith) ly in
-      let b1 : part 0 rows beside ≡ part 0 rows num = part-below 0 rows rows k num ys (omega arith) (omega arith) in
-      let q1 : part 0 m beside ≡ part 0 rows num = ap (λ (j : ℕ). part 0 j beside) em ∙ b1 in
+      let lk : length (part rows k numbers) ≡ k = length-part rows k numbers (omega arith) in
+      let ly : length ys ≡ k = ap length ey ∙ length-tab _ (length (part rows k numbers)) ∙ lk in
+      let l1 : length beside ≡ length numbers = length-placed rows k numbers ys (omega arith) ly in
+      let p1 : part rows k beside ≡ ys = part-same rows k numbers ys (omega arith) ly in
+      let b1 : part 0 rows beside ≡ part 0 rows numbers = part-below 0 rows rows k numbers ys (omega arith) (omega arith) in
+      let q1 : part 0 m beside ≡ part 0 rows numbers = ap (λ (j : ℕ). part 0 j beside) em ∙ b1 in
       let ag : ys ≡ times plusZero a (length g) rows g = ey ∙ ap₂ (λ (c r : ℕ). times plusZero a c r g) (sym lg) (lk ∙ ek) in
-      let up : lt plusZero d ≡ uphillIn a rows num g = ap (lt plusZero) (ed ∙ ap₂ (dotOf plusZero) q1 (p1 ∙ ag)) in
+      let up : lt plusZero d ≡ uphillIn a rows numbers g = ap (lt plusZero) (ed ∙ ap₂ (dotOf plusZero) q1 (p1 ∙ ag)) in
       let lz : length zs ≡ k = ap length ez ∙ length-turned (lt plusZero d) (part rows k beside) ∙ length-part rows k beside (omega arith) in
       let end : rows + k ≡ rows + rows = omega arith in
       record {
@@ -68,24 +68,24 @@ module _ (a : ℕ → ℕ → Float) (rows k m l : ℕ) (num g ys zs g' : List F
         ax = part-below 0 rows rows k beside zs (omega arith) (omega arith) ∙ b1;
         ag = ap (λ (j : ℕ). part rows j (placed rows k beside zs)) (sym ek) ∙ part-same rows k beside zs (omega arith) lz ∙ ez ∙ ap₂ turned up (p1 ∙ ag);
         rest = ap (λ (j : ℕ). drop j (placed rows k beside zs)) (sym end) ∙ drop-placed rows k beside zs (omega arith) lz
-            ∙ drop-placed rows k num ys (omega arith) ly ∙ ap (λ (j : ℕ). drop j num) end;
+            ∙ drop-placed rows k numbers ys (omega arith) ly ∙ ap (λ (j : ℕ). drop j numbers) end;
       }
 
 -- ---- the move
 
-module _ (a : ℕ → ℕ → Float) (rows : ℕ) (num x : List Float) (free : List ℕ) (g num1 g1 : List Float) (t : Float) (down : Downhill a rows num g num1 g1)
+module _ (a : ℕ → ℕ → Float) (rows : ℕ) (numbers x : List Float) (free : List ℕ) (g num1 g1 : List Float) (t : Float) (down : Downhill a rows numbers g num1 g1)
     (lg : length g ≡ length x) (et : t ≡ reachTo x g1 free (length x)) where
-  reach-is : t ≡ reachIn a rows num x free g
+  reach-is : t ≡ reachIn a rows numbers x free g
   reach-is = et ∙ ap₂ (λ (v : List Float) (k : ℕ). reachTo x v free k) (down .direction) (sym lg)
 
-  pub no-way : (f : Bool) → f ≡ finite t → f ≡ false → Advanced a rows num x free g false num1 x
+  pub no-way : (f : Bool) → f ≡ finite t → f ≡ false → Advanced a rows numbers x free g false num1 x
   no-way f ef e =
       record { goes = sym e ∙ ef ∙ ap finite reach-is; moves = refl; ax = down .ax; rest = down .rest }
 
   pub goes-along : (f : Bool) (k : ℕ) (ys x' : List Float) → f ≡ finite t → f ≡ true → k ≡ rows + rows → rows + rows ≤ length num1
       → x' ≡ moved t x g1 free
       → ys ≡ along t (part 0 rows (part 0 k num1)) (part rows rows (part 0 k num1)) ++ drop rows (part 0 k num1)
-      → Advanced a rows num x free g true (placed 0 k num1 ys) x'
+      → Advanced a rows numbers x free g true (placed 0 k num1 ys) x'
   goes-along f k ys x' ef e ek room ex ey =
       let p : List Float = part 0 rows num1 in
       let q : List Float = part rows rows num1 in
@@ -107,6 +107,7 @@ module _ (a : ℕ → ℕ → Float) (rows : ℕ) (num x : List Float) (free : L
         ax = take-append-le rows ys (drop k num1) (omega arith)
             ∙ ap (take rows) fresh ∙ take-at (along t p q) q rows la
             ∙ ap₂ (λ (s : Float) (c : List Float). along s p c) reach-is (down .ag)
-            ∙ ap (λ (c : List Float). along (reachIn a rows num x free g) c (turned (uphillIn a rows num g) (times plusZero a (length g) rows g))) (down .ax);
+            ∙ ap (λ (c : List Float). along (reachIn a rows numbers x free g) c (turned (uphillIn a rows numbers g) (times plusZero a (length g) rows g)))
+            (down .ax);
         rest = ap (λ (j : ℕ). drop j (placed 0 k num1 ys)) (sym end) ∙ drop-placed 0 k num1 ys (omega arith) ly ∙ ap (λ (j : ℕ). drop j num1) end ∙ down .rest;
       }

@@ -15,50 +15,52 @@ ghost use Rattle.advance.specs.Advancing.{Downhill, Advanced};
 
 // A g beside A x, both turned where the direction leads uphill.
 fn turn_downhill(
-    num: &mut [f64],
+    numbers: &mut [f64],
     rows: usize,
-    u: &[f64],
+    matrix: &[f64],
     n: usize,
     cols: &[u32],
     scale: &[f64],
     g: &mut [f64],
 )
-    requires { ⌜ Chosen (now u) n (now cols) (now scale) rows × (length (now g) ≡ length (now cols)) × (rows + rows ≤ length (now num)) ⌝ }
-    ensures { λ _. ⌜ Downhill (entryOf (now (u .entry)) n (now (cols .entry)) (now (scale .entry))) rows
-        (now (num .entry)) (now (g .entry)) (now (num .exit)) (now (g .exit)) ⌝ }
+    requires { ⌜ Chosen (now matrix) n (now cols) (now scale) rows × (length (now g) ≡ length (now cols))
+        × (rows + rows ≤ length (now numbers)) ⌝ }
+    ensures { λ _. ⌜ Downhill (entryOf (now (matrix .entry)) n (now (cols .entry)) (now (scale .entry))) rows
+        (now (numbers .entry)) (now (g .entry)) (now (numbers .exit)) (now (g .exit)) ⌝ }
 {
     let to = rows + rows;
-    times_into(&mut num[rows..to], u, n, cols, scale, &g[..]);
-    let all = &num[..];
+    times_into(&mut numbers[rows..to], matrix, n, cols, scale, &g[..]);
+    let all = &numbers[..];
     let uphill = dot(&all[0..rows], &all[rows..to]) > 0.0;
     turn_if(&mut g[..], uphill);
-    turn_if(&mut num[rows..to], uphill);
+    turn_if(&mut numbers[rows..to], uphill);
 }
 
 // Moves x and A x along g as far as x stays in [-1, 1]; whether that is a finite step.
 pub fn advance(
-    num: &mut [f64],
+    numbers: &mut [f64],
     rows: usize,
     x: &mut [f64],
     free: &[u32],
-    u: &[f64],
+    matrix: &[f64],
     n: usize,
     cols: &[u32],
     scale: &[f64],
     g: &mut [f64],
 ) -> bool
-    requires { ⌜ Chosen (now u) n (now cols) (now scale) rows × (length (now g) ≡ length (now cols)) × (length (now x) ≡ length (now cols))
-        × (length (now free) ≡ length (now cols)) × (rows + rows ≤ length (now num)) ⌝ }
-    ensures { λ r. ⌜ Advanced (entryOf (now (u .entry)) n (now (cols .entry)) (now (scale .entry))) rows
-        (now (num .entry)) (now (x .entry)) (now (free .entry)) (now (g .entry)) r (now (num .exit)) (now (x .exit)) ⌝ }
+    requires { ⌜ Chosen (now matrix) n (now cols) (now scale) rows × (length (now g) ≡ length (now cols))
+        × (length (now x) ≡ length (now cols))
+        × (length (now free) ≡ length (now cols)) × (rows + rows ≤ length (now numbers)) ⌝ }
+    ensures { λ r. ⌜ Advanced (entryOf (now (matrix .entry)) n (now (cols .entry)) (now (scale .entry))) rows
+        (now (numbers .entry)) (now (x .entry)) (now (free .entry)) (now (g .entry)) r (now (numbers .exit)) (now (x .exit)) ⌝ }
 {
-    turn_downhill(num, rows, u, n, cols, scale, &mut g[..]);
+    turn_downhill(numbers, rows, matrix, n, cols, scale, &mut g[..]);
     let t = reach(&x[..], &g[..], free);
     if !is_finite(t) {
         return false;
     }
     move_free(x, t, &g[..], free);
     let to = rows + rows;
-    move_rows(&mut num[0..to], rows, t);
+    move_rows(&mut numbers[0..to], rows, t);
     true
 }

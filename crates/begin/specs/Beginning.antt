@@ -10,15 +10,16 @@ use Rattle.begin.specs.Begin.{blockTo, marksTo}
 use Rattle.freeze.specs.Held.{axIn, basisIn}
 
 -- some rows were blocked in order
-pub record BlockedFirst (a : ℕ → ℕ → Float) (l : ℕ) (first : List ℕ) (num : List Float) (rows r : ℕ)
-    (num' : List Float) (blocked' : List ℕ) : Type 0 where
-  pub ax : axIn rows num' ≡ axIn rows num
+pub record BlockedFirst (a : ℕ → ℕ → Float) (l : ℕ) (first : List ℕ) (numbers : List Float) (rows r : ℕ)
+    (numbers' : List Float) (blocked' : List ℕ) : Type 0 where
+  pub ax : axIn rows numbers' ≡ axIn rows numbers
   pub marks : blocked' ≡ marksTo rows first (length first)
-  pub basis : basisIn rows l r num' ≡ blockTo plusZero a l first (length first)
+  pub basis : basisIn rows l r numbers' ≡ blockTo plusZero a l first (length first)
 
 -- the rows most at risk were
-pub record Begun (a : ℕ → ℕ → Float) (l : ℕ) (num : List Float) (rows r : ℕ) (num' : List Float) (blocked' : List ℕ) : Type 0 where
-  pub ax : axIn rows num' ≡ axIn rows num
-  pub marks : blocked' ≡ marksTo rows (firstRows plusZero a l rows (axIn rows num)) (length (firstRows plusZero a l rows (axIn rows num)))
-  pub basis : basisIn rows l r num'
-      ≡ blockTo plusZero a l (firstRows plusZero a l rows (axIn rows num)) (length (firstRows plusZero a l rows (axIn rows num)))
+pub record Begun (a : ℕ → ℕ → Float) (l : ℕ) (numbers : List Float) (rows r : ℕ) (numbers' : List Float) (blocked' : List ℕ) : Type 0 where
+  pub ax : axIn rows numbers' ≡ axIn rows numbers
+  pub marks : blocked' ≡ marksTo rows (firstRows plusZero a l rows (axIn rows numbers))
+      (length (firstRows plusZero a l rows (axIn rows numbers)))
+  pub basis : basisIn rows l r numbers'
+      ≡ blockTo plusZero a l (firstRows plusZero a l rows (axIn rows numbers)) (length (firstRows plusZero a l rows (axIn rows numbers)))

@@ -13,22 +13,22 @@ ghost use Rattle.begin.specs.Beginning.{BlockedFirst, Begun};
 
 // Blocks some rows, in order; how many vectors the basis then has. v is room for a row.
 fn block_first(
-    num: &mut [f64],
+    numbers: &mut [f64],
     blocked: &mut [u32],
     first: &[u32],
-    u: &[f64],
+    matrix: &[f64],
     n: usize,
     cols: &[u32],
     scale: &[f64],
     v: &mut [f64],
 ) -> usize
-    requires { ⌜ Chosen (now u) n (now cols) (now scale) (length (now blocked)) × (length (now v) ≡ length (now cols)) × (length
+    requires { ⌜ Chosen (now matrix) n (now cols) (now scale) (length (now blocked)) × (length (now v) ≡ length (now cols)) × (length
         (now blocked) + length (now blocked) + length (now blocked) + length (now cols) * length (now cols) ≤ length
-        (now num)) × (now blocked ≡ repeated 0 (length (now blocked))) ⌝ }
+        (now numbers)) × (now blocked ≡ repeated 0 (length (now blocked))) ⌝ }
     requires { ⌜ ((k : ℕ) → k < length (now first) → getD (now first) k 0 < length (now blocked)) ⌝ }
-    ensures { λ r. ⌜ BlockedFirst (entryOf (now (u .entry)) n (now (cols .entry)) (now (scale .entry)))
-        (length (now (cols .entry))) (now (first .entry)) (now (num .entry)) (length (now (blocked .entry))) r
-        (now (num .exit)) (now (blocked .exit)) ⌝ }
+    ensures { λ r. ⌜ BlockedFirst (entryOf (now (matrix .entry)) n (now (cols .entry)) (now (scale .entry)))
+        (length (now (cols .entry))) (now (first .entry)) (now (numbers .entry)) (length (now (blocked .entry))) r
+        (now (numbers .exit)) (now (blocked .exit)) ⌝ }
 {
     let base = blocked.len() + blocked.len() + blocked.len();
     let mut count = 0usize;
@@ -36,7 +36,16 @@ fn block_first(
     while k < first.len() {
         let i = first[k] as usize;
         blocked[i] = 1;
-        count = block_row(&mut num[base..], count, i, u, n, cols, scale, &mut v[..]);
+        count = block_row(
+            &mut numbers[base..],
+            count,
+            i,
+            matrix,
+            n,
+            cols,
+            scale,
+            &mut v[..],
+        );
         k += 1;
     }
     count
@@ -44,19 +53,19 @@ fn block_first(
 
 // Blocks the rows most at risk, a quarter as many as there are columns; how many vectors the basis then has.
 pub fn begin(
-    num: &mut [f64],
+    numbers: &mut [f64],
     blocked: &mut [u32],
-    u: &[f64],
+    matrix: &[f64],
     n: usize,
     cols: &[u32],
     scale: &[f64],
     v: &mut [f64],
 ) -> usize
-    requires { ⌜ Chosen (now u) n (now cols) (now scale) (length (now blocked)) × (length (now v) ≡ length (now cols)) × (length
+    requires { ⌜ Chosen (now matrix) n (now cols) (now scale) (length (now blocked)) × (length (now v) ≡ length (now cols)) × (length
         (now blocked) + length (now blocked) + length (now blocked) + length (now cols) * length (now cols) ≤ length
-        (now num)) ⌝ }
-    ensures { λ r. ⌜ Begun (entryOf (now (u .entry)) n (now (cols .entry)) (now (scale .entry)))
-        (length (now (cols .entry))) (now (num .entry)) (length (now (blocked .entry))) r (now (num .exit))
+        (now numbers)) ⌝ }
+    ensures { λ r. ⌜ Begun (entryOf (now (matrix .entry)) n (now (cols .entry)) (now (scale .entry)))
+        (length (now (cols .entry))) (now (numbers .entry)) (length (now (blocked .entry))) r (now (numbers .exit))
         (now (blocked .exit)) ⌝ }
 {
     let rows = blocked.len();
@@ -64,9 +73,9 @@ pub fn begin(
     let to = from + rows;
     let quarter = cols.len() / 4;
     let mut first = [0u32; 64];
-    norms_into(&mut num[from..to], u, n, cols, scale);
-    let all = &num[..];
+    norms_into(&mut numbers[from..to], matrix, n, cols, scale);
+    let all = &numbers[..];
     let k = first_rows(&mut first[..quarter], &all[0..rows], &all[from..to]);
     clear_words(&mut blocked[..]);
-    block_first(num, blocked, &first[..k], u, n, cols, scale, v)
+    block_first(numbers, blocked, &first[..k], matrix, n, cols, scale, v)
 }

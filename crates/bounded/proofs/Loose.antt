@@ -259,14 +259,14 @@ rest-some v w sv fv sw u = go (eq-zero-or-pos (mag binary64 w))
         absurd (contradict (le (sqrtOf w) m) u (subst (λ (x : Float). T (le x m)) (zero-sqrt (sw .number) z) q))
 
 -- a row of finite entries of at most 2 ^ 32
-pub record Lent (l : ℕ) (v : List Float) : Type 0 where
+pub record WideRow (l : ℕ) (v : List Float) : Type 0 where
   pub wide : length v ≡ l
   pub each : (j : ℕ) → j < l → Within binary64 (2 ^ 1106) (at v j)
 
 lent-square : {x : Float} → Within binary64 (2 ^ 1106) x → Within binary64 (2 ^ 1138) (mul binary64 x x)
 lent-square p = mul-within 1106 1106 1138 (lit≤ tt) (lit< tt) p p
 
-pub taken-loose : {l : ℕ} {basis : List (List Float)} {v : List Float} → l ≤ 60 → Few l basis → Lent l v → taken plusZero basis v ≡ true
+pub taken-loose : {l : ℕ} {basis : List (List Float)} {v : List Float} → l ≤ 60 → Few l basis → WideRow l v → taken plusZero basis v ≡ true
     → Loose l (unit plusZero (projected plusZero basis v))
 unfolding taken unit
 taken-loose {l} {basis} {v} h p r t =
@@ -297,7 +297,7 @@ taken-loose {l} {basis} {v} h p r t =
     by-size x j i ends some true e = over-finite x l j ends i (subst T (sym e) tt) some
     by-size x j i ends some false e = over-infinite (x j) (dot x x l) (ends j i) (dot-size ends) e
 
-pub inserted-few : {l : ℕ} {basis : List (List Float)} {v : List Float} → l ≤ 60 → Few l basis → Lent l v → Few l (inserted plusZero l basis v)
+pub inserted-few : {l : ℕ} {basis : List (List Float)} {v : List Float} → l ≤ 60 → Few l basis → WideRow l v → Few l (inserted plusZero l basis v)
 unfolding inserted
 inserted-few {l} {basis} {v} h p r = go (ltb (length basis) l && taken plusZero basis v) refl
   where

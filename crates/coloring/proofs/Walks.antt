@@ -41,9 +41,10 @@ module _ (z : Float) (a : ℕ → ℕ → Float) (k n : ℕ) where
   abbrev pub onward : Between → Between
   onward b = run settled (phased z a k n) (freeOnes (b .free)) b
 
-  pub walk-begun : (rng : SplitMix64) (num x : List Float) (free : List ℕ) → Fresh k n num x free → walked z a k n rng ≡ onward (between n num x free rng 0)
+  pub walk-begun : (rng : SplitMix64) (numbers x : List Float) (free : List ℕ) → Fresh k n numbers x free → walked z a k n rng
+      ≡ onward (between n numbers x free rng 0)
   unfolding walked
-  walk-begun rng num x free f = rw (f .zero, f .all, f .flat)
+  walk-begun rng numbers x free f = rw (f .zero, f .all, f .flat)
 
   module _ (b b' : Between) (next : b' ≡ phased z a k n b) (goes : freeOnes (b .free) ≢ 0) where
     pub walk-falls : freeOnes (b' .free) < freeOnes (b .free)
@@ -60,31 +61,33 @@ module _ (z : Float) (a : ℕ → ℕ → Float) (k n : ℕ) where
   walk-over b e = stays settled (phased z a k n) (λ c. freeOnes (c .free)) (falls z a k n) (freeOnes (b .free)) b (eq-eqb (freeOnes (b .free)) 0 e)
 
 -- the scratch has room as long as the lengths stay
-pub roomy-still : (k : ℕ) (num num' : List Float) (blocked blocked' : List ℕ) (x x' : List Float) (free free' : List ℕ) → Roomy k num blocked x free 0
-    → length num' ≡ length num → length blocked' ≡ length blocked → length x' ≡ length x → length free' ≡ length free → Roomy k num' blocked' x' free' 0
-roomy-still k num num' blocked blocked' x x' free free' r en eb ex ef =
+pub roomy-still : (k : ℕ) (numbers numbers' : List Float) (blocked blocked' : List ℕ) (x x' : List Float) (free free' : List ℕ)
+    → Roomy k numbers blocked x free 0
+    → length numbers' ≡ length numbers → length blocked' ≡ length blocked → length x' ≡ length x → length free' ≡ length free
+    → Roomy k numbers' blocked' x' free' 0
+roomy-still k numbers numbers' blocked blocked' x x' free free' r en eb ex ef =
     record { room = rw (en, eb) (r .room); wide = ex ∙ r .wide; marks = ef ∙ r .marks; most = omega arith }
 
 -- what stands once x, the front of the scratch and the marks are filled anew is where the walk starts
-pub fresh-is : (k rows : ℕ) (num x x' ys : List Float) (free free' : List ℕ) → length x ≡ k → length free ≡ k → rows ≤ length num
-    → x' ≡ repeated plusZero (length x) → ys ≡ repeated plusZero (length (take rows num)) → free' ≡ repeated 1 (length free)
-    → Fresh k rows (ys ++ drop rows num) x' free'
-fresh-is k rows num x x' ys free free' lx lf h ex ey ef =
-    let m : length (take rows num) ≡ rows = length-take-le rows num h in
+pub fresh-is : (k rows : ℕ) (numbers x x' ys : List Float) (free free' : List ℕ) → length x ≡ k → length free ≡ k → rows ≤ length numbers
+    → x' ≡ repeated plusZero (length x) → ys ≡ repeated plusZero (length (take rows numbers)) → free' ≡ repeated 1 (length free)
+    → Fresh k rows (ys ++ drop rows numbers) x' free'
+fresh-is k rows numbers x x' ys free free' lx lf h ex ey ef =
+    let m : length (take rows numbers) ≡ rows = length-take-le rows numbers h in
     let y : ys ≡ repeated plusZero rows = ey ∙ ap (repeated plusZero) m in
     record {
       zero = ex ∙ ap (repeated plusZero) lx;
       all = ef ∙ ap (repeated 1) lf;
-      flat = take-at ys (drop rows num) rows (ap length y ∙ length-tab (λ _. plusZero) rows) ∙ y;
+      flat = take-at ys (drop rows numbers) rows (ap length y ∙ length-tab (λ _. plusZero) rows) ∙ y;
     }
 
 -- the walk, and local search from its colours
-pub colors : (a : ℕ → ℕ → Float) (k rows : ℕ) (rng : SplitMix64) (m directions : ℕ) (num x x' : List Float) (free : List ℕ) (r : Counted)
-    → between rows num x free (r .rng) directions ≡ walked plusZero a k rows rng → r .directions ≡ directions → m ≡ rows
+pub colors : (a : ℕ → ℕ → Float) (k rows : ℕ) (rng : SplitMix64) (m directions : ℕ) (numbers x x' : List Float) (free : List ℕ) (r : Counted)
+    → between rows numbers x free (r .rng) directions ≡ walked plusZero a k rows rng → r .directions ≡ directions → m ≡ rows
     → searchedIn x' (r .sweeps) ≡ searched a k x (times plusZero a k m x)
     → ColoredAs x' r (coloringOf plusZero a k rows rng)
 unfolding coloringOf
-colors a k rows rng m directions num x x' free r w d e s =
+colors a k rows rng m directions numbers x x' free r w d e s =
     let f : searchedIn x' (r .sweeps) ≡ searched a k (walked plusZero a k rows rng .x) (times plusZero a k rows (walked plusZero a k rows rng .x)) =
     s ∙ ap (λ (i : ℕ). searched a k x (times plusZero a k i x)) e ∙ ap (λ (b : Between). searched a k (b .x) (times plusZero a k rows (b .x))) w in
     record {

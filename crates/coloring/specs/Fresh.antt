@@ -10,10 +10,10 @@ use Rattle.coloring.specs.Coloring.{Colored}
 use Rattle.coloring.specs.declared.Counted.{Counted}
 
 -- the walk's start: every coordinate 0 and free, and A x 0
-pub record Fresh (k rows : ℕ) (num x : List Float) (free : List ℕ) : Type 0 where
+pub record Fresh (k rows : ℕ) (numbers x : List Float) (free : List ℕ) : Type 0 where
   pub zero : x ≡ repeated plusZero k
   pub all : free ≡ repeated 1 k
-  pub flat : axIn rows num ≡ repeated plusZero rows
+  pub flat : axIn rows numbers ≡ repeated plusZero rows
 
 -- the colours and the answer r of a colouring are those of c
 pub record ColoredAs (x : List Float) (r : Counted) (c : Colored) : Type 0 where

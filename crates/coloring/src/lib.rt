@@ -51,20 +51,20 @@ fn count_free(free: &[u32]) -> usize
 // Phases until no coordinate is free; the directions of all of them are counted. x is all 0.0, free all set and A x all 0.0.
 // The arrays are room that the phases share.
 fn walk_to_end(
-    num: &mut [f64],
+    numbers: &mut [f64],
     blocked: &mut [u32],
     x: &mut [f64],
     free: &mut [u32],
-    u: &[f64],
+    matrix: &[f64],
     n: usize,
     cols: &[u32],
     scale: &[f64],
     rng: SplitMix64,
 ) -> Drawn
-    requires { ⌜ Chosen (now u) n (now cols) (now scale) (length (now blocked)) × Roomy (length (now cols)) (now num)
-        (now blocked) (now x) (now free) 0 × Fresh (length (now cols)) (length (now blocked)) (now num) (now x) (now free) ⌝ }
-    ensures { λ r. ⌜ between (length (now (blocked .entry))) (now (num .exit)) (now (x .exit)) (now (free .exit))
-        (r .rng) (r .directions) ≡ walked plusZero (entryOf (now (u .entry)) n (now (cols .entry)) (now (scale .entry)))
+    requires { ⌜ Chosen (now matrix) n (now cols) (now scale) (length (now blocked)) × Roomy (length (now cols)) (now numbers)
+        (now blocked) (now x) (now free) 0 × Fresh (length (now cols)) (length (now blocked)) (now numbers) (now x) (now free) ⌝ }
+    ensures { λ r. ⌜ between (length (now (blocked .entry))) (now (numbers .exit)) (now (x .exit)) (now (free .exit))
+        (r .rng) (r .directions) ≡ walked plusZero (entryOf (now (matrix .entry)) n (now (cols .entry)) (now (scale .entry)))
         (length (now (cols .entry))) (length (now (blocked .entry))) rng ⌝ }
 {
     let mut places = [0u32; 256];
@@ -78,11 +78,11 @@ fn walk_to_end(
     let mut left = count_free(&free[..]);
     while left > 0 {
         let next = next_phase(
-            num,
+            numbers,
             blocked,
             x,
             free,
-            u,
+            matrix,
             n,
             cols,
             scale,
@@ -104,81 +104,81 @@ fn walk_to_end(
 
 // The whole walk, from x = 0 with every coordinate free.
 fn walk_anew(
-    num: &mut [f64],
+    numbers: &mut [f64],
     blocked: &mut [u32],
     x: &mut [f64],
     free: &mut [u32],
-    u: &[f64],
+    matrix: &[f64],
     n: usize,
     cols: &[u32],
     scale: &[f64],
     rng: SplitMix64,
 ) -> Drawn
-    requires { ⌜ Chosen (now u) n (now cols) (now scale) (length (now blocked)) × Roomy (length (now cols)) (now num)
+    requires { ⌜ Chosen (now matrix) n (now cols) (now scale) (length (now blocked)) × Roomy (length (now cols)) (now numbers)
         (now blocked) (now x) (now free) 0 ⌝ }
-    ensures { λ r. ⌜ between (length (now (blocked .entry))) (now (num .exit)) (now (x .exit)) (now (free .exit))
-        (r .rng) (r .directions) ≡ walked plusZero (entryOf (now (u .entry)) n (now (cols .entry)) (now (scale .entry)))
+    ensures { λ r. ⌜ between (length (now (blocked .entry))) (now (numbers .exit)) (now (x .exit)) (now (free .exit))
+        (r .rng) (r .directions) ≡ walked plusZero (entryOf (now (matrix .entry)) n (now (cols .entry)) (now (scale .entry)))
         (length (now (cols .entry))) (length (now (blocked .entry))) rng ⌝ }
 {
     let rows = blocked.len();
     clear(&mut x[..]);
-    clear(&mut num[..rows]);
+    clear(&mut numbers[..rows]);
     fill_words(&mut free[..], 1);
-    walk_to_end(num, blocked, x, free, u, n, cols, scale, rng)
+    walk_to_end(numbers, blocked, x, free, matrix, n, cols, scale, rng)
 }
 
 // Local search from the colours x, with A x anew; how many sweeps.
 fn search_anew(
     ax: &mut [f64],
     x: &mut [f64],
-    u: &[f64],
+    matrix: &[f64],
     n: usize,
     cols: &[u32],
     scale: &[f64],
 ) -> usize
-    requires { ⌜ Chosen (now u) n (now cols) (now scale) (length (now ax)) × (length (now x) ≡ length (now cols)) ⌝ }
-    ensures { λ r. ⌜ searchedIn (now (x .exit)) r ≡ searched (entryOf (now (u .entry)) n (now (cols .entry)) (now (scale .entry)))
+    requires { ⌜ Chosen (now matrix) n (now cols) (now scale) (length (now ax)) × (length (now x) ≡ length (now cols)) ⌝ }
+    ensures { λ r. ⌜ searchedIn (now (x .exit)) r ≡ searched (entryOf (now (matrix .entry)) n (now (cols .entry)) (now (scale .entry)))
         (length (now (cols .entry))) (now (x .entry)) (times plusZero
-        (entryOf (now (u .entry)) n (now (cols .entry)) (now (scale .entry))) (length (now (cols .entry)))
+        (entryOf (now (matrix .entry)) n (now (cols .entry)) (now (scale .entry))) (length (now (cols .entry)))
         (length (now (ax .entry))) (now (x .entry))) ⌝ }
 {
-    times_into(&mut ax[..], u, n, cols, scale, &x[..]);
-    local_search(ax, x, u, n, cols, scale)
+    times_into(&mut ax[..], matrix, n, cols, scale, &x[..]);
+    local_search(ax, x, matrix, n, cols, scale)
 }
 
 // Colours the columns, 1.0 or -1.0 each, into x. blocked is as long as there are rows.
 pub fn coloring(
-    u: &[f64],
+    matrix: &[f64],
     n: usize,
     cols: &[u32],
     scale: &[f64],
     x: &mut [f64],
-    num: &mut [f64],
+    numbers: &mut [f64],
     blocked: &mut [u32],
     rng: SplitMix64,
 ) -> Counted
-    requires { ⌜ Chosen (now u) n (now cols) (now scale) (length (now blocked)) × (length (now x) ≡ length (now cols)) × (length
+    requires { ⌜ Chosen (now matrix) n (now cols) (now scale) (length (now blocked)) × (length (now x) ≡ length (now cols)) × (length
         (now blocked) + length (now blocked) + length (now blocked) + length (now cols) * length (now cols) ≤ length
-        (now num)) ⌝ }
+        (now numbers)) ⌝ }
     ensures { λ r. ⌜ ColoredAs (now (x .exit)) r (coloringOf plusZero
-        (entryOf (now (u .entry)) n (now (cols .entry)) (now (scale .entry))) (length (now (cols .entry)))
+        (entryOf (now (matrix .entry)) n (now (cols .entry)) (now (scale .entry))) (length (now (cols .entry)))
         (length (now (blocked .entry))) rng) ⌝ }
 {
     let k = cols.len();
     let rows = blocked.len();
     let mut free = [0u32; 256];
     let w = walk_anew(
-        &mut num[..],
+        &mut numbers[..],
         blocked,
         &mut x[..],
         &mut free[..k],
-        u,
+        matrix,
         n,
         cols,
         scale,
         rng,
     );
-    let sweeps = search_anew(&mut num[..rows], x, u, n, cols, scale);
+    let sweeps = search_anew(&mut numbers[..rows], x, matrix, n, cols, scale);
     let r = w.rng;
     Counted {
         directions: w.directions,

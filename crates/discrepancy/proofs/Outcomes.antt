@@ -19,9 +19,9 @@ use Rattle.discrepancy.specs.Discrepancy.{coloringFault, colourAt, colou
 pub colours-at : {x y : List Float} {r : Counted} {c : Colored} → y ≡ x → ColoredAs x r c → ColoredAs y r c
 colours-at e h = record { colours = e ∙ h .colours; draws = h .draws; directions = h .directions; sweeps = h .sweeps }
 
-module _ (u : List Float) (m n seed : ℕ) (output : List ℤ) (numbers : List Float) (indices : List ℕ) where
-  pub refused : (r : ℕ) → r ≡ coloringFault u m n (length output) (length numbers) (length indices) → (r ≡ 0 → ⊥)
-      → DiscrepancyColored u m n seed output numbers indices (record { number = r; directions = 0; sweeps = 0 }) output numbers indices
+module _ (matrix : List Float) (m n seed : ℕ) (output : List ℤ) (numbers : List Float) (indices : List ℕ) where
+  pub refused : (r : ℕ) → r ≡ coloringFault matrix m n (length output) (length numbers) (length indices) → (r ≡ 0 → ⊥)
+      → DiscrepancyColored matrix m n seed output numbers indices (record { number = r; directions = 0; sweeps = 0 }) output numbers indices
   refused r e h =
       record {
         number = e;
@@ -33,13 +33,14 @@ module _ (u : List Float) (m n seed : ℕ) (output : List ℤ) (numbers : List F
       }
 
   pub coloured : (x numbers' : List Float) (indices' : List ℕ) (output' : List ℤ) (c : Counted)
-      → coloringFault u m n (length output) (length numbers) (length indices) ≡ 0
-      → ColoredAs x c (coloringOf plusZero (columnsOf u n) m n (seeded seed 1))
+      → coloringFault matrix m n (length output) (length numbers) (length indices) ≡ 0
+      → ColoredAs x c (coloringOf plusZero (columnsOf matrix n) m n (seeded seed 1))
       → length x ≡ m
       → output' ≡ tabulate (colourAt x) (length x)
       → numbers' ≡ repeated plusZero (length numbers)
       → indices' ≡ repeated 0 (length indices)
-      → DiscrepancyColored u m n seed output numbers indices (record { number = 0; directions = c .directions; sweeps = c .sweeps }) output' numbers' indices'
+      → DiscrepancyColored matrix m n seed output numbers indices
+      (record { number = 0; directions = c .directions; sweeps = c .sweeps }) output' numbers' indices'
   unfolding coloursOf
   coloured x numbers' indices' output' c e is wide left floats words =
       record {

@@ -37,28 +37,29 @@ unscaled m = repeated one m
 unscaled-is : (x : Float) → T (fits binary64 x) → mul binary64 x one ≡ x
 unscaled-is x h = rw unit-is (times-one binary64 x h)
 
-module _ (u : List Float) (m n : ℕ) (area : length u ≡ m * n) where
-  inside : (p : ℕ) → p < m → getD (inOrder m) p 0 * n + n ≤ length u
+module _ (matrix : List Float) (m n : ℕ) (area : length matrix ≡ m * n) where
+  inside : (p : ℕ) → p < m → getD (inOrder m) p 0 * n + n ≤ length matrix
   inside p h = rw (getD-tab (λ i. i) m p 0 h, area) (room p m n h)
 
   -- an entry within the bound is finite, and so is 1.0 under it
-  finite-own : ((i : ℕ) → T (fits binary64 (at u i))) → bounded mostEntry u ≡ true → (p i : ℕ) → p < m → T
-      (finite (at (unscaled m) p)) → T (finite (entryOf u n (inOrder m) (unscaled m) p i))
+  finite-own : ((i : ℕ) → T (fits binary64 (at matrix i))) → bounded mostEntry matrix ≡ true → (p i : ℕ) → p < m → T
+      (finite (at (unscaled m) p)) → T (finite (entryOf matrix n (inOrder m) (unscaled m) p i))
   unfolding ofBits
   finite-own known within p i h t = go (decLt i n)
     where
-      go : Dec (i < n) → T (finite (entryOf u n (inOrder m) (unscaled m) p i))
+      go : Dec (i < n) → T (finite (entryOf matrix n (inOrder m) (unscaled m) p i))
       go (yes k) =
           rw (
-            entry-own u n (inOrder m) (unscaled m) p i (inside p h) k,
+            entry-own matrix n (inOrder m) (unscaled m) p i (inside p h) k,
             getD-tab (λ i. i) m p 0 h,
             getD-tab (λ i. one) m p nan h,
-            unscaled-is (at u (p * n + i)) (known (p * n + i)),
+            unscaled-is (at matrix (p * n + i)) (known (p * n + i)),
           )
-          (finite-within (at u (p * n + i)) _ _ _ (bounded-at mostEntry u within (p * n + i) (omega (arith, room p m n h))))
-      go (no k) = rw (entry-under u n (inOrder m) (unscaled m) p i (inside p h) (omega arith), getD-tab (λ i. one) m p nan h) tt
+          (finite-within (at matrix (p * n + i)) _ _ _ (bounded-at mostEntry matrix within (p * n + i) (omega (arith, room p m n h))))
+      go (no k) = rw (entry-under matrix n (inOrder m) (unscaled m) p i (inside p h) (omega arith), getD-tab (λ i. one) m p nan h) tt
 
-  pub own-chosen : m ≤ 256 → n ≤ 4096 → ((i : ℕ) → T (fits binary64 (at u i))) → bounded mostEntry u ≡ true → Chosen u n (inOrder m) (unscaled m) n
+  pub own-chosen : m ≤ 256 → n ≤ 4096 → ((i : ℕ) → T (fits binary64 (at matrix i))) → bounded mostEntry matrix ≡ true
+      → Chosen matrix n (inOrder m) (unscaled m) n
   own-chosen few short known within =
       record {
         low = omega arith;
@@ -70,30 +71,31 @@ module _ (u : List Float) (m n : ℕ) (area : length u ≡ m * n) where
         sound = λ p i h t. finite-own known within p i (rw (length-tab (λ i. i) m) at h) t;
       }
 
-  module _ (known : (i : ℕ) → T (fits binary64 (at u i))) where
-    own-entry : (p i : ℕ) → p < m → i < n → entryOf u n (inOrder m) (unscaled m) p i ≡ columnsOf u n p i
+  module _ (known : (i : ℕ) → T (fits binary64 (at matrix i))) where
+    own-entry : (p i : ℕ) → p < m → i < n → entryOf matrix n (inOrder m) (unscaled m) p i ≡ columnsOf matrix n p i
     own-entry p i h k =
-        entry-own u n (inOrder m) (unscaled m) p i (inside p h) k
-        ∙ rw (getD-tab (λ i. i) m p 0 h, getD-tab (λ i. one) m p nan h) (unscaled-is (at u (p * n + i)) (known (p * n + i)))
+        entry-own matrix n (inOrder m) (unscaled m) p i (inside p h) k
+        ∙ rw (getD-tab (λ i. i) m p 0 h, getD-tab (λ i. one) m p nan h) (unscaled-is (at matrix (p * n + i)) (known (p * n + i)))
 
     -- the colouring of those columns is that of the matrix
-    pub own-coloring : (rng : SplitMix64) → coloringOf plusZero (entryOf u n (inOrder m) (unscaled m)) m n rng ≡ coloringOf plusZero (columnsOf u n) m n rng
-    own-coloring rng = coloring-same (entryOf u n (inOrder m) (unscaled m)) (columnsOf u n) m n own-entry plusZero rng
+    pub own-coloring : (rng : SplitMix64) → coloringOf plusZero (entryOf matrix n (inOrder m) (unscaled m)) m n rng
+        ≡ coloringOf plusZero (columnsOf matrix n) m n rng
+    own-coloring rng = coloring-same (entryOf matrix n (inOrder m) (unscaled m)) (columnsOf matrix n) m n own-entry plusZero rng
 
-module _ (u : List Float) (m n : ℕ) (cols : List ℕ) (scale : List Float) (blocked : List ℕ)
-    (area : length u ≡ m * n) (ordered : cols ≡ inOrder m) (ones : scale ≡ unscaled m) (rows : length blocked ≡ n) where
+module _ (matrix : List Float) (m n : ℕ) (cols : List ℕ) (scale : List Float) (blocked : List ℕ)
+    (area : length matrix ≡ m * n) (ordered : cols ≡ inOrder m) (ones : scale ≡ unscaled m) (rows : length blocked ≡ n) where
   many : length cols ≡ m
   many = rw ordered (length-tab (λ i. i) m)
 
   -- what the colouring of those columns asks for
-  pub own-asked : (x num : List Float) → m ≤ 256 → n ≤ 4096 → ((i : ℕ) → T (fits binary64 (at u i))) → bounded mostEntry u ≡ true
-      → length x ≡ m → n + n + n + m * m ≤ length num
-      → Chosen u n cols scale (length blocked) × (length x ≡ length cols) ×
-      (length blocked + length blocked + length blocked + length cols * length cols ≤ length num)
-  own-asked x num few short known within wide room =
-      (rw (ordered, ones, rows) (own-chosen u m n area few short known within), wide ∙ sym many, rw (rows, many) room)
+  pub own-asked : (x numbers : List Float) → m ≤ 256 → n ≤ 4096 → ((i : ℕ) → T (fits binary64 (at matrix i))) → bounded mostEntry matrix ≡ true
+      → length x ≡ m → n + n + n + m * m ≤ length numbers
+      → Chosen matrix n cols scale (length blocked) × (length x ≡ length cols) ×
+      (length blocked + length blocked + length blocked + length cols * length cols ≤ length numbers)
+  own-asked x numbers few short known within wide room =
+      (rw (ordered, ones, rows) (own-chosen matrix m n area few short known within), wide ∙ sym many, rw (rows, many) room)
 
   -- and what it leaves
-  pub own-left : ((i : ℕ) → T (fits binary64 (at u i))) → (rng start : SplitMix64) → rng ≡ start
-      → coloringOf plusZero (entryOf u n cols scale) (length cols) (length blocked) rng ≡ coloringOf plusZero (columnsOf u n) m n start
-  own-left known rng start e = rw (rows, many, ordered, ones, e) (own-coloring u m n area known start)
+  pub own-left : ((i : ℕ) → T (fits binary64 (at matrix i))) → (rng start : SplitMix64) → rng ≡ start
+      → coloringOf plusZero (entryOf matrix n cols scale) (length cols) (length blocked) rng ≡ coloringOf plusZero (columnsOf matrix n) m n start
+  own-left known rng start e = rw (rows, many, ordered, ones, e) (own-coloring matrix m n area known start)

@@ -7,9 +7,9 @@ use lib.Ieee.{Float}
 use Rattle.discrepancy.specs.Discrepancy.{DiscrepancyColored}
 use Rattle.discrepancy.specs.declared.Colored.{Colored}
 
-pub one-answer : {u : List Float} {m n seed : ℕ} {output : List ℤ} {numbers : List Float} {indices : List ℕ} {r s : Colored}
+pub one-answer : {matrix : List Float} {m n seed : ℕ} {output : List ℤ} {numbers : List Float} {indices : List ℕ} {r s : Colored}
     {a b : List ℤ} {v w : List Float} {i j : List ℕ}
-    → DiscrepancyColored u m n seed output numbers indices r a v i → DiscrepancyColored u m n seed output numbers indices s b w j
+    → DiscrepancyColored matrix m n seed output numbers indices r a v i → DiscrepancyColored matrix m n seed output numbers indices s b w j
     → (r ≡ s) × (a ≡ b) × (v ≡ w) × (i ≡ j)
 one-answer {r = r} {s = s} p q =
     let e : r .number ≡ s .number = p .number ∙ sym (q .number) in

@@ -22,11 +22,11 @@ mostEntry = ofBits binary64 0x41F0_0000_0000_0000
 
 -- The lowest number that applies: 3 too large, 4 another length, 6 too little scratch, 11 an entry that is not finite or above 2 ^ 32.
 unfoldable pub coloringFault : List Float → ℕ → ℕ → ℕ → ℕ → ℕ → ℕ
-coloringFault u m n output numbers indices =
+coloringFault matrix m n output numbers indices =
     pick (tooLarge m n) 3
-    (pick (not (eqb (length u) (m * n)) || not (eqb output m)) 4
+    (pick (not (eqb (length matrix) (m * n)) || not (eqb output m)) 4
     (pick (scratchShort m n numbers indices) 6
-    (pick (bounded mostEntry u) 0 11)))
+    (pick (bounded mostEntry matrix) 0 11)))
 
 -- 1 for a colour above 0, and -1 for one below
 abbrev pub colourAt : List Float → ℕ → ℤ
@@ -34,15 +34,15 @@ colourAt x j = pick (lt plusZero (at x j)) (pos 1) (negsuc 0)
 
 -- the colours of the m columns; direct colourings stay at edition 1
 unfoldable pub coloursOf : List Float → ℕ → ℕ → ℕ → List ℤ
-coloursOf u m n seed = tabulate (colourAt (coloringOf plusZero (columnsOf u n) m n (seeded seed 1) .x)) m
+coloursOf matrix m n seed = tabulate (colourAt (coloringOf plusZero (columnsOf matrix n) m n (seeded seed 1) .x)) m
 
 -- The answer, and what the call leaves: on a refusal zeros beside the number, and every list as it was, as a list of values;
 -- else how many directions were drawn and sweeps made, the colours, and a scratch of zeros.
-pub record DiscrepancyColored (u : List Float) (m n seed : ℕ) (output : List ℤ) (numbers : List Float) (indices : List ℕ)
+pub record DiscrepancyColored (matrix : List Float) (m n seed : ℕ) (output : List ℤ) (numbers : List Float) (indices : List ℕ)
     (r : Colored) (output' : List ℤ) (numbers' : List Float) (indices' : List ℕ) : Type 0 where
-  pub number : r .number ≡ coloringFault u m n (length output) (length numbers) (length indices)
-  pub directions : r .directions ≡ pick (eqb (r .number) 0) (coloringOf plusZero (columnsOf u n) m n (seeded seed 1) .directions) 0
-  pub sweeps : r .sweeps ≡ pick (eqb (r .number) 0) (coloringOf plusZero (columnsOf u n) m n (seeded seed 1) .sweeps) 0
-  pub colours : output' ≡ pick (eqb (r .number) 0) (coloursOf u m n seed) output
+  pub number : r .number ≡ coloringFault matrix m n (length output) (length numbers) (length indices)
+  pub directions : r .directions ≡ pick (eqb (r .number) 0) (coloringOf plusZero (columnsOf matrix n) m n (seeded seed 1) .directions) 0
+  pub sweeps : r .sweeps ≡ pick (eqb (r .number) 0) (coloringOf plusZero (columnsOf matrix n) m n (seeded seed 1) .sweeps) 0
+  pub colours : output' ≡ pick (eqb (r .number) 0) (coloursOf matrix m n seed) output
   pub floats : numbers' ≡ pick (eqb (r .number) 0) (repeated plusZero (length numbers)) numbers
   pub words : indices' ≡ pick (eqb (r .number) 0) (repeated 0 (length indices)) indices

@@ -14,20 +14,20 @@ use Rattle.ieee.specs.Magnitude.{absOf}
 use Rattle.columns.proofs.Scaled.{scaled-own, scaled-under}
 use Rattle.entries.specs.Entries.{entryOf}
 
-module _ (u : List Float) (n : ℕ) (cols : List ℕ) (scale : List Float) (p i : ℕ) (inside : getD cols p 0 * n + n ≤ length u) where
+module _ (matrix : List Float) (n : ℕ) (cols : List ℕ) (scale : List Float) (p i : ℕ) (inside : getD cols p 0 * n + n ≤ length matrix) where
   abbrev column : List Float
-  column = part (getD cols p 0 * n) n u
+  column = part (getD cols p 0 * n) n matrix
 
   long : length column ≡ n
-  long = length-part (getD cols p 0 * n) n u inside
+  long = length-part (getD cols p 0 * n) n matrix inside
 
-  -- the same of a column that is chosen from u
-  pub entry-own : i < n → entryOf u n cols scale p i ≡ mul binary64 (at u (getD cols p 0 * n + i)) (at scale p)
+  -- the same of a column that is chosen from matrix
+  pub entry-own : i < n → entryOf matrix n cols scale p i ≡ mul binary64 (at matrix (getD cols p 0 * n + i)) (at scale p)
   entry-own h =
       scaled-own column (at scale p) i (omega (arith, long))
-      ∙ ap (λ (x : Float). mul binary64 x (at scale p)) (getD-part (getD cols p 0 * n) n i u nan h)
+      ∙ ap (λ (x : Float). mul binary64 x (at scale p)) (getD-part (getD cols p 0 * n) n i matrix nan h)
 
-  pub entry-under : n ≤ i → entryOf u n cols scale p i ≡ absOf (at scale p)
+  pub entry-under : n ≤ i → entryOf matrix n cols scale p i ≡ absOf (at scale p)
   entry-under h = scaled-under column (at scale p) i (omega (arith, long))
 
 -- n sums by rows over p columns become those over p + 1 where each row takes one term more

@@ -17,28 +17,28 @@ ghost use Rattle.columns.specs.Kernels.{plusColumn, plusColumns};
 ghost use Rattle.entries.specs.PassedOver.{PassedOver};
 
 // The entry at row i of column p.
-fn entry(u: &[f64], n: usize, cols: &[u32], scale: &[f64], p: usize, i: usize) -> f64
-    requires { ⌜ Chosen (now u) n (now cols) (now scale) n × (p < length (now cols)) ⌝ }
-    ensures { λ r. ⌜ r ≡ entryOf (now (u .entry)) n (now (cols .entry)) (now (scale .entry)) p i ⌝ }
+fn entry(matrix: &[f64], n: usize, cols: &[u32], scale: &[f64], p: usize, i: usize) -> f64
+    requires { ⌜ Chosen (now matrix) n (now cols) (now scale) n × (p < length (now cols)) ⌝ }
+    ensures { λ r. ⌜ r ≡ entryOf (now (matrix .entry)) n (now (cols .entry)) (now (scale .entry)) p i ⌝ }
 {
     let s = scale[p];
     if i < n {
         let at = (cols[p] as usize) * n + i;
-        u[at] * s
+        matrix[at] * s
     } else {
         abs(s)
     }
 }
 
 // Row i, an entry for each column.
-pub fn row_into(v: &mut [f64], u: &[f64], n: usize, cols: &[u32], scale: &[f64], i: usize)
-    requires { ⌜ Chosen (now u) n (now cols) (now scale) n × (length (now v) ≡ length (now cols)) ⌝ }
-    ensures { λ _. ⌜ now (v .exit) ≡ rowOf (entryOf (now (u .entry)) n (now (cols .entry)) (now (scale .entry)))
+pub fn row_into(v: &mut [f64], matrix: &[f64], n: usize, cols: &[u32], scale: &[f64], i: usize)
+    requires { ⌜ Chosen (now matrix) n (now cols) (now scale) n × (length (now v) ≡ length (now cols)) ⌝ }
+    ensures { λ _. ⌜ now (v .exit) ≡ rowOf (entryOf (now (matrix .entry)) n (now (cols .entry)) (now (scale .entry)))
         (length (now (cols .entry))) i ⌝ }
 {
     let mut p = 0usize;
     while p < v.len() {
-        v[p] = entry(u, n, cols, scale, p, i);
+        v[p] = entry(matrix, n, cols, scale, p, i);
         p += 1;
     }
 }
@@ -65,28 +65,28 @@ fn next_live(scale: &[f64], g: &[f64], from: usize) -> usize
 // acc, which has the sums over the columns before p, plus column p.
 fn add_one_at(
     acc: &mut [f64],
-    u: &[f64],
+    matrix: &[f64],
     n: usize,
     cols: &[u32],
     scale: &[f64],
     g: &[f64],
     p: usize,
 )
-    requires { ⌜ Chosen (now u) n (now cols) (now scale) (length (now acc)) × (length (now g) ≡ length (now cols)) ×
+    requires { ⌜ Chosen (now matrix) n (now cols) (now scale) (length (now acc)) × (length (now g) ≡ length (now cols)) ×
         (p < length (now cols)) ⌝ }
     ensures { λ _. ⌜ now (acc .exit) ≡ tabulate (plusColumn
-        (entryOf (now (u .entry)) n (now (cols .entry)) (now (scale .entry)) p) (at (now (g .entry)) p)
+        (entryOf (now (matrix .entry)) n (now (cols .entry)) (now (scale .entry)) p) (at (now (g .entry)) p)
         (now (acc .entry))) (length (now (acc .entry))) ⌝ }
 {
     let a = (cols[p] as usize) * n;
     let e = a + n;
-    add_column(acc, &u[a..e], scale[p], g[p]);
+    add_column(acc, &matrix[a..e], scale[p], g[p]);
 }
 
 // acc plus columns p and q, in order.
 fn add_two_at(
     acc: &mut [f64],
-    u: &[f64],
+    matrix: &[f64],
     n: usize,
     cols: &[u32],
     scale: &[f64],
@@ -94,25 +94,34 @@ fn add_two_at(
     p: usize,
     q: usize,
 )
-    requires { ⌜ Chosen (now u) n (now cols) (now scale) (length (now acc)) × (length (now g) ≡ length (now cols)) × (p < length (now cols))
+    requires { ⌜ Chosen (now matrix) n (now cols) (now scale) (length (now acc)) × (length (now g) ≡ length (now cols))
+        × (p < length (now cols))
         × (q < length (now cols)) ⌝ }
     ensures { λ _. ⌜ now (acc .exit) ≡ tabulate (plusColumns
-        (entryOf (now (u .entry)) n (now (cols .entry)) (now (scale .entry)) p) (at (now (g .entry)) p)
-        (entryOf (now (u .entry)) n (now (cols .entry)) (now (scale .entry)) q) (at (now (g .entry)) q)
+        (entryOf (now (matrix .entry)) n (now (cols .entry)) (now (scale .entry)) p) (at (now (g .entry)) p)
+        (entryOf (now (matrix .entry)) n (now (cols .entry)) (now (scale .entry)) q) (at (now (g .entry)) q)
         (now (acc .entry))) (length (now (acc .entry))) ⌝ }
 {
     let a = (cols[p] as usize) * n;
     let e = a + n;
     let b = (cols[q] as usize) * n;
     let f = b + n;
-    add_two(acc, &u[a..e], scale[p], g[p], &u[b..f], scale[q], g[q]);
+    add_two(
+        acc,
+        &matrix[a..e],
+        scale[p],
+        g[p],
+        &matrix[b..f],
+        scale[q],
+        g[q],
+    );
 }
 
 // The matrix times g, two columns at a time, without those that add nothing; each row's sum is in the columns' order.
-pub fn times_into(acc: &mut [f64], u: &[f64], n: usize, cols: &[u32], scale: &[f64], g: &[f64])
-    requires { ⌜ Chosen (now u) n (now cols) (now scale) (length (now acc)) × (length (now g) ≡ length (now cols)) ⌝ }
+pub fn times_into(acc: &mut [f64], matrix: &[f64], n: usize, cols: &[u32], scale: &[f64], g: &[f64])
+    requires { ⌜ Chosen (now matrix) n (now cols) (now scale) (length (now acc)) × (length (now g) ≡ length (now cols)) ⌝ }
     ensures { λ _. ⌜ now (acc .exit) ≡ times plusZero
-        (entryOf (now (u .entry)) n (now (cols .entry)) (now (scale .entry))) (length (now (cols .entry)))
+        (entryOf (now (matrix .entry)) n (now (cols .entry)) (now (scale .entry))) (length (now (cols .entry)))
         (length (now (acc .entry))) (now (g .entry)) ⌝ }
 {
     clear(&mut acc[..]);
@@ -120,20 +129,20 @@ pub fn times_into(acc: &mut [f64], u: &[f64], n: usize, cols: &[u32], scale: &[f
     while p < cols.len() {
         let q = next_live(scale, g, p + 1);
         if q < cols.len() {
-            add_two_at(&mut acc[..], u, n, cols, scale, g, p, q);
+            add_two_at(&mut acc[..], matrix, n, cols, scale, g, p, q);
             p = next_live(scale, g, q + 1);
         } else {
-            add_one_at(&mut acc[..], u, n, cols, scale, g, p);
+            add_one_at(&mut acc[..], matrix, n, cols, scale, g, p);
             p = q;
         }
     }
 }
 
 // The sums of the rows' squares.
-pub fn norms_into(acc: &mut [f64], u: &[f64], n: usize, cols: &[u32], scale: &[f64])
-    requires { ⌜ Chosen (now u) n (now cols) (now scale) (length (now acc)) ⌝ }
+pub fn norms_into(acc: &mut [f64], matrix: &[f64], n: usize, cols: &[u32], scale: &[f64])
+    requires { ⌜ Chosen (now matrix) n (now cols) (now scale) (length (now acc)) ⌝ }
     ensures { λ _. ⌜ now (acc .exit) ≡ rowNorms plusZero
-        (entryOf (now (u .entry)) n (now (cols .entry)) (now (scale .entry))) (length (now (cols .entry)))
+        (entryOf (now (matrix .entry)) n (now (cols .entry)) (now (scale .entry))) (length (now (cols .entry)))
         (length (now (acc .entry))) ⌝ }
 {
     clear(&mut acc[..]);
@@ -142,7 +151,7 @@ pub fn norms_into(acc: &mut [f64], u: &[f64], n: usize, cols: &[u32], scale: &[f
         let a = (cols[p] as usize) * n;
         let e = a + n;
         let s = scale[p];
-        add_squares(&mut acc[..], &u[a..e], s);
+        add_squares(&mut acc[..], &matrix[a..e], s);
         p += 1;
     }
 }

@@ -77,32 +77,32 @@ module _ (w : List Float) where
     weights-fine h g = rw (ends, h, g)
 
 -- the values
-module _ (u w : List Float) where
-  pub entry-refused : bounded one u ≡ false → 7 ≡ valueFault u w
+module _ (matrix w : List Float) where
+  pub entry-refused : bounded one matrix ≡ false → 7 ≡ valueFault matrix w
   unfolding valueFault
   entry-refused h = rw h
 
-  pub weights-left : bounded one u ≡ true → {left : ℕ} → left ≡ weightFault w → left ≡ valueFault u w
+  pub weights-left : bounded one matrix ≡ true → {left : ℕ} → left ≡ weightFault w → left ≡ valueFault matrix w
   unfolding valueFault
   weights-left h e = rw h e
 
 -- the first of them that is not 0
-module _ (rule : Rule) (edition : ℕ) (u : List Float) (m n : ℕ) (w : List Float) (output numbers indices : ℕ)
+module _ (rule : Rule) (edition : ℕ) (matrix : List Float) (m n : ℕ) (w : List Float) (output numbers indices : ℕ)
     {first : ℕ} (e1 : first ≡ ruleFault rule) where
-  pub rule-refused : (first ≡ 0 → ⊥) → first ≡ jobFault rule edition u m n w output numbers indices
+  pub rule-refused : (first ≡ 0 → ⊥) → first ≡ jobFault rule edition matrix m n w output numbers indices
   unfolding jobFault
   rule-refused h = rw (← e1, ne-eqb first 0 h)
 
   module _ (fine1 : first ≡ 0) {second : ℕ} (e2 : second ≡ editionFault edition) where
-    pub edition-refused : (second ≡ 0 → ⊥) → second ≡ jobFault rule edition u m n w output numbers indices
+    pub edition-refused : (second ≡ 0 → ⊥) → second ≡ jobFault rule edition matrix m n w output numbers indices
     unfolding jobFault
     edition-refused h = rw (← e1, eq-eqb first 0 fine1, ← e2, ne-eqb second 0 h)
 
-    module _ (fine2 : second ≡ 0) {third : ℕ} (e3 : third ≡ sizeFault m n (length u) (length w) output numbers indices) where
-      pub sizes-refused : (third ≡ 0 → ⊥) → third ≡ jobFault rule edition u m n w output numbers indices
+    module _ (fine2 : second ≡ 0) {third : ℕ} (e3 : third ≡ sizeFault m n (length matrix) (length w) output numbers indices) where
+      pub sizes-refused : (third ≡ 0 → ⊥) → third ≡ jobFault rule edition matrix m n w output numbers indices
       unfolding jobFault
       sizes-refused h = rw (← e1, eq-eqb first 0 fine1, ← e2, eq-eqb second 0 fine2, ← e3, ne-eqb third 0 h)
 
-      pub values-left : third ≡ 0 → {last : ℕ} → last ≡ valueFault u w → last ≡ jobFault rule edition u m n w output numbers indices
+      pub values-left : third ≡ 0 → {last : ℕ} → last ≡ valueFault matrix w → last ≡ jobFault rule edition matrix m n w output numbers indices
       unfolding jobFault
       values-left fine3 g = rw (← e1, eq-eqb first 0 fine1, ← e2, eq-eqb second 0 fine2, ← e3, eq-eqb third 0 fine3) g

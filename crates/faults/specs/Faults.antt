@@ -46,13 +46,13 @@ weightFault w = pick (allFinite w) (pick (sound (l1Of plusZero w)) 0 9) 8
 
 -- 7 an entry outside [-1, 1], then 8 and 9
 unfoldable pub valueFault : List Float → List Float → ℕ
-valueFault u w = pick (bounded one u) (weightFault w) 7
+valueFault matrix w = pick (bounded one matrix) (weightFault w) 7
 
 -- the first of all
 unfoldable pub jobFault : Rule → ℕ → List Float → ℕ → ℕ → List Float → ℕ → ℕ → ℕ → ℕ
-jobFault rule edition u m n w output numbers indices =
+jobFault rule edition matrix m n w output numbers indices =
     orElse (ruleFault rule) (orElse (editionFault edition)
-    (orElse (sizeFault m n (length u) (length w) output numbers indices) (valueFault u w)))
+    (orElse (sizeFault m n (length matrix) (length w) output numbers indices) (valueFault matrix w)))
 
 -- A list of a call for several items has another length than items, m and n say: the matrix is one, weights and output have m places for
 -- each item, and each other list has one.

@@ -31,43 +31,43 @@ pub fn block_row(
     basis: &mut [f64],
     count: usize,
     i: usize,
-    u: &[f64],
+    matrix: &[f64],
     n: usize,
     cols: &[u32],
     scale: &[f64],
     v: &mut [f64],
 ) -> usize
-    requires { ⌜ Chosen (now u) n (now cols) (now scale) n × (length (now v) ≡ length (now cols)) ×
+    requires { ⌜ Chosen (now matrix) n (now cols) (now scale) n × (length (now v) ≡ length (now cols)) ×
         (length (now cols) * length (now cols) ≤ length (now basis))
         × (count ≤ length (now cols)) ⌝ }
     ensures { λ r. ⌜ Inserted plusZero count (length (now (cols .entry))) (now (basis .entry))
-        (rowOf (entryOf (now (u .entry)) n (now (cols .entry)) (now (scale .entry))) (length (now (cols .entry))) i) r
+        (rowOf (entryOf (now (matrix .entry)) n (now (cols .entry)) (now (scale .entry))) (length (now (cols .entry))) i) r
         (now (basis .exit)) ⌝ }
 {
-    row_into(&mut v[..], u, n, cols, scale, i);
+    row_into(&mut v[..], matrix, n, cols, scale, i);
     insert(basis, count, cols.len(), v)
 }
 
 // Blocks the worst row that is not blocked, where there is one and the basis is short of a vector for each column; the new count.
 fn block_worst(
-    num: &mut [f64],
+    numbers: &mut [f64],
     count: usize,
     blocked: &mut [u32],
-    u: &[f64],
+    matrix: &[f64],
     n: usize,
     cols: &[u32],
     scale: &[f64],
     v: &mut [f64],
 ) -> usize
-    requires { ⌜ Chosen (now u) n (now cols) (now scale) (length (now blocked)) × (length (now v) ≡ length (now cols)) × (length
+    requires { ⌜ Chosen (now matrix) n (now cols) (now scale) (length (now blocked)) × (length (now v) ≡ length (now cols)) × (length
         (now blocked) + length (now blocked) + length (now blocked) + length (now cols) * length (now cols) ≤ length
-        (now num)) × (count ≤ length (now cols)) ⌝ }
-    ensures { λ r. ⌜ Blocked (entryOf (now (u .entry)) n (now (cols .entry)) (now (scale .entry)))
-        (length (now (cols .entry))) (now (num .entry)) (now (blocked .entry)) count r (now (num .exit))
+        (now numbers)) × (count ≤ length (now cols)) ⌝ }
+    ensures { λ r. ⌜ Blocked (entryOf (now (matrix .entry)) n (now (cols .entry)) (now (scale .entry)))
+        (length (now (cols .entry))) (now (numbers .entry)) (now (blocked .entry)) count r (now (numbers .exit))
         (now (blocked .exit)) ⌝ }
 {
     let rows = blocked.len();
-    let i = worst(&num[..rows], &blocked[..]);
+    let i = worst(&numbers[..rows], &blocked[..]);
     if i >= rows {
         return count;
     }
@@ -76,36 +76,37 @@ fn block_worst(
     }
     blocked[i] = 1;
     let base = rows + rows + rows;
-    block_row(&mut num[base..], count, i, u, n, cols, scale, v)
+    block_row(&mut numbers[base..], count, i, matrix, n, cols, scale, v)
 }
 
 // Freezes coordinate p; the new count.
 fn freeze_at(
-    num: &mut [f64],
+    numbers: &mut [f64],
     count: usize,
     blocked: &mut [u32],
     x: &mut [f64],
     free: &mut [u32],
     p: usize,
-    u: &[f64],
+    matrix: &[f64],
     n: usize,
     cols: &[u32],
     scale: &[f64],
     v: &mut [f64],
 ) -> usize
-    requires { ⌜ Chosen (now u) n (now cols) (now scale) (length (now blocked)) × Roomy (length (now cols)) (now num)
+    requires { ⌜ Chosen (now matrix) n (now cols) (now scale) (length (now blocked)) × Roomy (length (now cols)) (now numbers)
         (now blocked) (now x) (now free) count × (length (now v) ≡ length (now cols)) × (p < length (now cols)) ⌝ }
-    ensures { λ r. ⌜ ((frozen : ℕ) (rng : SplitMix64) → held (now (num .exit)) (now (blocked .exit)) (now (x .exit)) (now (free .exit)) r
-        (frozen + 1) rng ≡ frozenAt plusZero (entryOf (now (u .entry)) n (now (cols .entry)) (now (scale .entry)))
+    ensures { λ r. ⌜ ((frozen : ℕ) (rng : SplitMix64) → held (now (numbers .exit)) (now (blocked .exit)) (now (x .exit))
+        (now (free .exit)) r
+        (frozen + 1) rng ≡ frozenAt plusZero (entryOf (now (matrix .entry)) n (now (cols .entry)) (now (scale .entry)))
         (length (now (cols .entry))) (length (now (blocked .entry)))
-        (held (now (num .entry)) (now (blocked .entry)) (now (x .entry)) (now (free .entry)) count frozen rng) p) ⌝ }
+        (held (now (numbers .entry)) (now (blocked .entry)) (now (x .entry)) (now (free .entry)) count frozen rng) p) ⌝ }
 {
     x[p] = signum(x[p]);
     free[p] = 0;
     axis_into(&mut v[..], p);
     let base = blocked.len() + blocked.len() + blocked.len();
-    let c = insert(&mut num[base..], count, cols.len(), &mut v[..]);
-    block_worst(num, c, blocked, u, n, cols, scale, v)
+    let c = insert(&mut numbers[base..], count, cols.len(), &mut v[..]);
+    block_worst(numbers, c, blocked, matrix, n, cols, scale, v)
 }
 
 // How many vectors the basis has, and how many coordinates froze in this phase.
@@ -116,23 +117,23 @@ pub struct Frozen {
 
 // Freezes each free coordinate that is near enough to 1 or -1, in order.
 pub fn freeze(
-    num: &mut [f64],
+    numbers: &mut [f64],
     from: Frozen,
     blocked: &mut [u32],
     x: &mut [f64],
     free: &mut [u32],
-    u: &[f64],
+    matrix: &[f64],
     n: usize,
     cols: &[u32],
     scale: &[f64],
     v: &mut [f64],
 ) -> Frozen
-    requires { ⌜ Chosen (now u) n (now cols) (now scale) (length (now blocked)) × Roomy (length (now cols)) (now num)
+    requires { ⌜ Chosen (now matrix) n (now cols) (now scale) (length (now blocked)) × Roomy (length (now cols)) (now numbers)
         (now blocked) (now x) (now free) (from .count) × (length (now v) ≡ length (now cols)) × (from .frozen ≤ 256) ⌝ }
-    ensures { λ r. ⌜ ((rng : SplitMix64) → held (now (num .exit)) (now (blocked .exit)) (now (x .exit)) (now (free .exit))
+    ensures { λ r. ⌜ ((rng : SplitMix64) → held (now (numbers .exit)) (now (blocked .exit)) (now (x .exit)) (now (free .exit))
         (r .count) (r .frozen) rng ≡ freezeTo plusZero
-        (entryOf (now (u .entry)) n (now (cols .entry)) (now (scale .entry))) (length (now (cols .entry)))
-        (length (now (blocked .entry))) (held (now (num .entry)) (now (blocked .entry)) (now (x .entry))
+        (entryOf (now (matrix .entry)) n (now (cols .entry)) (now (scale .entry))) (length (now (cols .entry)))
+        (length (now (blocked .entry))) (held (now (numbers .entry)) (now (blocked .entry)) (now (x .entry))
         (now (free .entry)) (from .count) (from .frozen) rng) (length (now (cols .entry)))) ⌝ }
 {
     let mut count = from.count;
@@ -142,13 +143,13 @@ pub fn freeze(
         if free[p] == 1 {
             if abs(x[p]) >= 1.0 - 1e-9 {
                 count = freeze_at(
-                    num,
+                    numbers,
                     count,
                     blocked,
                     x,
                     free,
                     p,
-                    u,
+                    matrix,
                     n,
                     cols,
                     scale,

@@ -22,21 +22,21 @@ pub record Adds (directions sweeps : ℕ) (h k : Halved) : Type 0 where
   pub drawn : k .directions ≤ h .directions + directions
   pub swept : k .sweeps ≤ h .sweeps + sweeps
 
-module _ (z : Float) (u : ℕ → ℕ → Float) (n : ℕ) (ω : Float) (rest : List ℕ) (h : Halved) where
+module _ (z : Float) (matrix : ℕ → ℕ → Float) (n : ℕ) (ω : Float) (rest : List ℕ) (h : Halved) where
   abbrev some : List ℕ
   some = remaining (h .w) rest
 
-  pub once-adds : Adds (2 * length rest) 100 h (halvedOnce z u n ω rest h)
+  pub once-adds : Adds (2 * length rest) 100 h (halvedOnce z matrix n ω rest h)
   unfolding halvedOnce
   once-adds = go (eqb (length some) 0)
     where
       c : Colored
-      c = coloringOf z (scaledColumns u n (h .w) ω some) (length some) (suc n) (h .rng)
+      c = coloringOf z (scaledColumns matrix n (h .w) ω some) (length some) (suc n) (h .rng)
 
       go : (t : Bool) → Adds (2 * length rest) 100 h (pick t h (halvedBy h some c))
       go true = record { drawn = omega arith; swept = omega arith }
       go false =
-          let columns = scaledColumns u n (h .w) ω some in
+          let columns = scaledColumns matrix n (h .w) ω some in
           let fewer = those-short (isOn (h .w)) rest (length rest) in
           record {
             drawn = omega (arith, directions-most z columns (length some) (suc n) (h .rng), fewer);
@@ -48,10 +48,10 @@ pub one-countable : {c : Counted} → Countable c 2 → Countable c 1
 one-countable room = record { directions = omega (arith, room .directions); sweeps = omega (arith, room .sweeps) }
 
 -- so where two more could be counted, one more can be after the first
-pub countable-once : {a b : Counted} (z : Float) (u : ℕ → ℕ → Float) (n : ℕ) (ω : Float) (rest : List ℕ) (w v : List Float)
-    → Countable a 2 → length rest ≤ 256 → halvesOf v b ≡ halvedOnce z u n ω rest (halvesOf w a) → Countable b 1
-countable-once {a} z u n ω rest w v room few e =
-    let adds = once-adds z u n ω rest (halvesOf w a) in
+pub countable-once : {a b : Counted} (z : Float) (matrix : ℕ → ℕ → Float) (n : ℕ) (ω : Float) (rest : List ℕ) (w v : List Float)
+    → Countable a 2 → length rest ≤ 256 → halvesOf v b ≡ halvedOnce z matrix n ω rest (halvesOf w a) → Countable b 1
+countable-once {a} z matrix n ω rest w v room few e =
+    let adds = once-adds z matrix n ω rest (halvesOf w a) in
     record {
       directions = omega (arith, room .directions, adds .drawn, few, ap (λ (h : Halved). h .directions) e);
       sweeps = omega (arith, room .sweeps, adds .swept, ap (λ (h : Halved). h .sweeps) e);

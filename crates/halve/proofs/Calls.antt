@@ -12,17 +12,17 @@ use Rattle.weights.specs.Weights.{isOn}
 use Rattle.doubling.specs.Doubling.{remaining}
 use Rattle.doubling.proofs.Turns.{those-short}
 use Rattle.doubling.proofs.Once.{every-at, every-those}
-use Rattle.halve.specs.Handed.{Lent, Ready}
+use Rattle.halve.specs.Handed.{Equipped, Ready}
 
 -- the remaining of indices below n are below n
 pub remaining-below : (w : List Float) (rest : List ℕ) (n : ℕ) → Below rest n → Below (remaining w rest) n
 remaining-below w rest n b = record { below = λ p l. every-at (every-those {P = λ j. j < n} (isOn w) rest (length rest) (b .below)) p l .1 }
 
 -- the remaining rest, as it stands at the front of a buffer, with scratch as long
-pub lent : {u : List Float} {n : ℕ} {w numbers : List Float} {indices rest : List ℕ} {k : ℕ} {some : List ℕ} {scale x : List Float} {blocked : List ℕ}
-    → Ready u n w numbers indices → Below rest (length w) → length rest ≤ length w → Pushed (remaining w rest) k some
-    → length scale ≡ k → length x ≡ k → length blocked ≡ n + 1 → Lent u n w (take k some) scale x numbers blocked
-lent {u} {n} {w} {numbers} {indices} {rest} {k} {some} r b s p es ex eb =
+pub lent : {matrix : List Float} {n : ℕ} {w numbers : List Float} {indices rest : List ℕ} {k : ℕ} {some : List ℕ} {scale x : List Float} {blocked : List ℕ}
+    → Ready matrix n w numbers indices → Below rest (length w) → length rest ≤ length w → Pushed (remaining w rest) k some
+    → length scale ≡ k → length x ≡ k → length blocked ≡ n + 1 → Equipped matrix n w (take k some) scale x numbers blocked
+lent {matrix} {n} {w} {numbers} {indices} {rest} {k} {some} r b s p es ex eb =
     let long : length (take k some) ≡ k = length-take-le k some (p .within) in
     let fewer : k ≤ length w = omega (arith, p .long, those-short (isOn w) rest (length rest)) in
     record {
@@ -38,8 +38,8 @@ lent {u} {n} {w} {numbers} {indices} {rest} {k} {some} r b s p es ex eb =
     }
 
 -- after a call that keeps the lengths
-pub ready-still : {u : List Float} {n : ℕ} {w numbers w' numbers' : List Float} {indices indices' : List ℕ} → Ready u n w numbers indices
-    → length w' ≡ length w → length numbers' ≡ length numbers → length indices' ≡ length indices → Ready u n w' numbers' indices'
+pub ready-still : {matrix : List Float} {n : ℕ} {w numbers w' numbers' : List Float} {indices indices' : List ℕ} → Ready matrix n w numbers indices
+    → length w' ≡ length w → length numbers' ≡ length numbers → length indices' ≡ length indices → Ready matrix n w' numbers' indices'
 ready-still r ew en ei =
     record {
       whole = rw ew (r .whole);

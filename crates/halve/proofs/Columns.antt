@@ -25,41 +25,42 @@ use Rattle.coloring.specs.Fresh.{ColoredAs}
 use Rattle.coloring.specs.declared.Counted.{Counted}
 use Rattle.draw.specs.declared.SplitMix64.{SplitMix64}
 
-module _ (u : List Float) (n : ℕ) (w : List Float) (ω : Float) (r : List ℕ) (whole : length u ≡ length w * n)
+module _ (matrix : List Float) (n : ℕ) (w : List Float) (ω : Float) (r : List ℕ) (whole : length matrix ≡ length w * n)
     (inside : (p : ℕ) → p < length r → getD r p 0 < length w) where
   abbrev scales : List Float
   scales = tabulate (scaleAt w ω r) (length r)
 
   -- each column lies in the matrix
-  pub column-inside : (p : ℕ) → p < length r → getD r p 0 * n + n ≤ length u
+  pub column-inside : (p : ℕ) → p < length r → getD r p 0 * n + n ≤ length matrix
   column-inside p l = rw whole (room (getD r p 0) (length w) n (inside p l))
 
-  entry-same : (p i : ℕ) → p < length r → i < suc n → entryOf u n r scales p i ≡ scaledColumns (columnsOf u n) n w ω r p i
+  entry-same : (p i : ℕ) → p < length r → i < suc n → entryOf matrix n r scales p i ≡ scaledColumns (columnsOf matrix n) n w ω r p i
   entry-same p i l g = go (decLt i n)
     where
       own : at scales p ≡ scaleAt w ω r p
       own = getD-tab (scaleAt w ω r) (length r) p nan l
 
-      go : Dec (i < n) → entryOf u n r scales p i ≡ scaledColumns (columnsOf u n) n w ω r p i
-      go (yes h) = entry-own u n r scales p i (column-inside p l) h ∙ rw (lt-ltb i n h, own)
+      go : Dec (i < n) → entryOf matrix n r scales p i ≡ scaledColumns (columnsOf matrix n) n w ω r p i
+      go (yes h) = entry-own matrix n r scales p i (column-inside p l) h ∙ rw (lt-ltb i n h, own)
       go (no h) =
           let under : n ≤ i = omega arith in
-          entry-under u n r scales p i (column-inside p l) under ∙ rw (le-ltb i n under, own)
+          entry-under matrix n r scales p i (column-inside p l) under ∙ rw (le-ltb i n under, own)
 
-  pub colours-same : (rng : SplitMix64) → coloringOf plusZero (entryOf u n r scales) (length r) (n + 1) rng ≡ coloringOf plusZero
-      (scaledColumns (columnsOf u n) n w ω r) (length r) (suc n) rng
-  colours-same rng = rw (add-one n) (coloring-same (entryOf u n r scales) (scaledColumns (columnsOf u n) n w ω r) (length r) (suc n) entry-same plusZero rng)
+  pub colours-same : (rng : SplitMix64) → coloringOf plusZero (entryOf matrix n r scales) (length r) (n + 1) rng ≡ coloringOf plusZero
+      (scaledColumns (columnsOf matrix n) n w ω r) (length r) (suc n) rng
+  colours-same rng = rw (add-one n) (coloring-same (entryOf matrix n r scales) (scaledColumns (columnsOf matrix n) n w ω r) (length r)
+      (suc n) entry-same plusZero rng)
 
   -- the halving by these colours, from what each call ensures
   pub halved-by : (rng : SplitMix64) (scale x : List Float) (rows : ℕ) (sigma : Float) (v : List Float) (r' : Counted) (directions sweeps : ℕ)
-      → scale ≡ scales → rows ≡ n + 1 → ColoredAs x r' (coloringOf plusZero (entryOf u n r scale) (length r) rows rng)
+      → scale ≡ scales → rows ≡ n + 1 → ColoredAs x r' (coloringOf plusZero (entryOf matrix n r scale) (length r) rows rng)
       → sigma ≡ sigmaOf x → v ≡ halvedTo w r x sigma (length r)
       → _≡_ {A = Halved} (record { w = v; rng = r' .rng; directions = directions + r' .directions; sweeps = sweeps + r' .sweeps })
       (halvedBy (record { w = w; rng = rng; directions = directions; sweeps = sweeps }) r
-      (coloringOf plusZero (scaledColumns (columnsOf u n) n w ω r) (length r) (suc n) rng))
+      (coloringOf plusZero (scaledColumns (columnsOf matrix n) n w ω r) (length r) (suc n) rng))
   halved-by rng scale x rows sigma v r' directions sweeps es er c ec ev =
-      let same : coloringOf plusZero (entryOf u n r scale) (length r) rows rng ≡ coloringOf plusZero
-      (scaledColumns (columnsOf u n) n w ω r) (length r) (suc n) rng =
+      let same : coloringOf plusZero (entryOf matrix n r scale) (length r) rows rng ≡ coloringOf plusZero
+      (scaledColumns (columnsOf matrix n) n w ω r) (length r) (suc n) rng =
       rw (es, er) (colours-same rng) in
       rw (← same) (rw (ev, ec, c .colours, c .draws, c .directions, c .sweeps))
 
@@ -74,17 +75,17 @@ module _ {t r : Counted} {x : List Float} (z : Float) (a : ℕ → ℕ → Float
 
 -- ---- one halving
 
-module _ (u : ℕ → ℕ → Float) (n : ℕ) (ω : Float) (rest : List ℕ) (h : Halved) where
+module _ (matrix : ℕ → ℕ → Float) (n : ℕ) (ω : Float) (rest : List ℕ) (h : Halved) where
   abbrev some : List ℕ
   some = remaining (h .w) rest
 
   abbrev colouring : Colored
-  colouring = coloringOf plusZero (scaledColumns u n (h .w) ω some) (length some) (suc n) (h .rng)
+  colouring = coloringOf plusZero (scaledColumns matrix n (h .w) ω some) (length some) (suc n) (h .rng)
 
-  pub halve-none : length some ≡ 0 → h ≡ halvedOnce plusZero u n ω rest h
+  pub halve-none : length some ≡ 0 → h ≡ halvedOnce plusZero matrix n ω rest h
   unfolding halvedOnce
   halve-none e = rw (eq-eqb (length some) 0 e)
 
-  pub halve-some : (length some ≡ 0 → ⊥) → (k : Halved) → k ≡ halvedBy h some colouring → k ≡ halvedOnce plusZero u n ω rest h
+  pub halve-some : (length some ≡ 0 → ⊥) → (k : Halved) → k ≡ halvedBy h some colouring → k ≡ halvedOnce plusZero matrix n ω rest h
   unfolding halvedOnce
   halve-some e k g = rw (ne-eqb (length some) 0 e) g

@@ -32,15 +32,15 @@ product-finite x s k f h =
     mul-finite p f (le-trans (le-of-eq (sym (abs-mag binary64 x)))
     (le-trans (le→mag (size .number) (unit-number binary64) (size .plus) refl within) (le-of-eq (unit-mag binary64)))) .ends
 
-module _ (u : List Float) (n : ℕ) (cols : List ℕ) (scale : List Float) (p i : ℕ)
-    (known : T (fits binary64 (at u (getD cols p 0 * n + i)))) (scaled : T (fits binary64 (at scale p))) where
-  pub finite-entry : bounded one u ≡ true → getD cols p 0 * n + n ≤ length u → T (finite (at scale p)) → T (finite (entryOf u n cols scale p i))
+module _ (matrix : List Float) (n : ℕ) (cols : List ℕ) (scale : List Float) (p i : ℕ)
+    (known : T (fits binary64 (at matrix (getD cols p 0 * n + i)))) (scaled : T (fits binary64 (at scale p))) where
+  pub finite-entry : bounded one matrix ≡ true → getD cols p 0 * n + n ≤ length matrix → T (finite (at scale p)) → T (finite (entryOf matrix n cols scale p i))
   finite-entry small inside t = go (decLt i n)
     where
       f : Finite binary64 (at scale p)
       f = record { held = scaled; ends = t }
 
-      go : Dec (i < n) → T (finite (entryOf u n cols scale p i))
-      go (yes h) = rw (entry-own u n cols scale p i inside h) (product-finite (at u (getD cols p 0 * n + i)) (at scale p) known f
-          (bounded-at one u small (getD cols p 0 * n + i) (omega arith)))
-      go (no h) = rw (entry-under u n cols scale p i inside (omega arith)) (abs-finite f .ends)
+      go : Dec (i < n) → T (finite (entryOf matrix n cols scale p i))
+      go (yes h) = rw (entry-own matrix n cols scale p i inside h) (product-finite (at matrix (getD cols p 0 * n + i)) (at scale p) known f
+          (bounded-at one matrix small (getD cols p 0 * n + i) (omega arith)))
+      go (no h) = rw (entry-under matrix n cols scale p i inside (omega arith)) (abs-finite f .ends)

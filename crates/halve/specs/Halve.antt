@@ -13,8 +13,8 @@ use Rattle.draw.specs.declared.SplitMix64.{SplitMix64}
 
 -- the columns of some indices, each scaled by its weight over ω, with the row of the scales' magnitudes under them
 abbrev pub scaledColumns : (ℕ → ℕ → Float) → ℕ → List Float → Float → List ℕ → ℕ → ℕ → Float
-scaledColumns u n w omega rest p i =
-    pick (ltb i n) (mul binary64 (u (getD rest p 0) i) (scaleAt w omega rest p)) (absOf (scaleAt w omega rest p))
+scaledColumns matrix n w omega rest p i =
+    pick (ltb i n) (mul binary64 (matrix (getD rest p 0) i) (scaleAt w omega rest p)) (absOf (scaleAt w omega rest p))
 
 -- weights, the generator that runs on, and how many directions were drawn and how many sweeps made on the way to them
 pub record Halved : Type 0 where
@@ -34,7 +34,7 @@ halvedBy h some c = record {
 
 -- the remaining rest coloured and halved, where there is any
 unfoldable pub halvedOnce : Float → (ℕ → ℕ → Float) → ℕ → Float → List ℕ → Halved → Halved
-halvedOnce z u n omega rest h =
+halvedOnce z matrix n omega rest h =
     let r : List ℕ = remaining (h .w) rest in
-    let c : Colored = coloringOf z (scaledColumns u n (h .w) omega r) (length r) (suc n) (h .rng) in
+    let c : Colored = coloringOf z (scaledColumns matrix n (h .w) omega r) (length r) (suc n) (h .rng) in
     pick (eqb (length r) 0) h (halvedBy h r c)

@@ -12,8 +12,9 @@ use Rattle.halve.specs.Halve.{Halved}
 use Rattle.coloring.specs.declared.Counted.{Counted}
 
 -- a colouring of some indices has its columns and its scratch
-pub record Lent (u : List Float) (n : ℕ) (w : List Float) (some : List ℕ) (scale x numbers : List Float) (blocked : List ℕ) : Type 0 where
-  pub whole : length u ≡ length w * n
+pub record Equipped (matrix : List Float) (n : ℕ) (w : List Float) (some : List ℕ) (scale x numbers : List Float)
+    (blocked : List ℕ) : Type 0 where
+  pub whole : length matrix ≡ length w * n
   pub inside : Below some (length w)
   pub few : length some ≤ 256
   pub short : n ≤ 4096
@@ -21,16 +22,16 @@ pub record Lent (u : List Float) (n : ℕ) (w : List Float) (some : List ℕ) (s
   pub colours : length x ≡ length some
   pub floats : 3 * (n + 1) + length some * length some ≤ length numbers
   pub rows : length blocked ≡ n + 1
-  pub small : bounded one u ≡ true
+  pub small : bounded one matrix ≡ true
 
 -- the matrix has a column for each weight and no entry above 1, and there is scratch for a colouring of any of them with one more row
-pub record Ready (u : List Float) (n : ℕ) (w numbers : List Float) (indices : List ℕ) : Type 0 where
-  pub whole : length u ≡ length w * n
+pub record Ready (matrix : List Float) (n : ℕ) (w numbers : List Float) (indices : List ℕ) : Type 0 where
+  pub whole : length matrix ≡ length w * n
   pub few : length w ≤ 256
   pub short : n ≤ 4096
   pub floats : 3 * (n + 1) + length w * length w ≤ length numbers
   pub words : n + 1 ≤ length indices
-  pub small : bounded one u ≡ true
+  pub small : bounded one matrix ≡ true
 
 -- so many more colourings can be counted: each has at most 512 directions and 100 sweeps
 pub record Countable (c : Counted) (more : ℕ) : Type 0 where

@@ -13,7 +13,7 @@ ghost use Rattle.seq.specs.Indices.{Below};
 ghost use Rattle.coloring.specs.Coloring.{coloringOf};
 ghost use Rattle.limits.specs.Matrix.{columnsOf};
 ghost use Rattle.halve.specs.Halve.{scaledColumns, halvedBy, halvedOnce};
-ghost use Rattle.halve.specs.Handed.{halvesOf, Lent, Ready, Countable};
+ghost use Rattle.halve.specs.Handed.{halvesOf, Equipped, Ready, Countable};
 
 // Colours some indices and halves their weights; the tally with the colouring added. scale, x and blocked are scratch.
 fn halve_some(
@@ -28,7 +28,7 @@ fn halve_some(
     blocked: &mut [u32],
     tally: Counted,
 ) -> Counted
-    requires { ⌜ Lent (now matrix) n (now w) (now some) (now scale) (now x) (now numbers) (now blocked) × Countable tally 1 ⌝ }
+    requires { ⌜ Equipped (now matrix) n (now w) (now some) (now scale) (now x) (now numbers) (now blocked) × Countable tally 1 ⌝ }
     ensures { λ r. ⌜ halvesOf (now (w .exit)) r ≡ halvedBy (halvesOf (now (w .entry)) tally) (now (some .entry)) (coloringOf plusZero
         (scaledColumns (columnsOf (now (matrix .entry)) n) n (now (w .entry)) omega (now (some .entry)))
         (length (now (some .entry))) (suc n) (tally .rng)) ⌝ }

@@ -9,11 +9,11 @@ use Rattle.halve.proofs.Adding.{Adds, once-adds}
 use Rattle.halving.specs.Halving.{halvedTwice, passOf}
 use Rattle.halving.proofs.Rest.{length-rest}
 
-pub pass-adds : (z : Float) (u : ℕ → ℕ → Float) (n : ℕ) (h : Halved) → Adds (4 * nonzeros (h .w)) 200 h (passOf z u n h)
+pub pass-adds : (z : Float) (matrix : ℕ → ℕ → Float) (n : ℕ) (h : Halved) → Adds (4 * nonzeros (h .w)) 200 h (passOf z matrix n h)
 unfolding passOf halvedTwice
-pass-adds z u n h =
-    let first = once-adds z u n (omegaOf (h .w)) (restOf (h .w)) h in
-    let second = once-adds z u n (omegaOf (h .w)) (restOf (h .w)) (halvedOnce z u n (omegaOf (h .w)) (restOf (h .w)) h) in
+pass-adds z matrix n h =
+    let first = once-adds z matrix n (omegaOf (h .w)) (restOf (h .w)) h in
+    let second = once-adds z matrix n (omegaOf (h .w)) (restOf (h .w)) (halvedOnce z matrix n (omegaOf (h .w)) (restOf (h .w)) h) in
     record {
       drawn = omega (arith, first .drawn, second .drawn, length-rest (h .w));
       swept = omega (arith, first .swept, second .swept);

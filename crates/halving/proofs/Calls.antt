@@ -44,14 +44,14 @@ kept-within w order kept e k h = let long : length order ≡ nonzeros w = ap len
 
 -- ---- the pass
 
-pub pass-holds : (u : ℕ → ℕ → Float) (n : ℕ) (w v t out : List Float) (rest : List ℕ) (ω : Float) (a b c : Counted)
+pub pass-holds : (matrix : ℕ → ℕ → Float) (n : ℕ) (w v t out : List Float) (rest : List ℕ) (ω : Float) (a b c : Counted)
     → rest ≡ restOf w → ω ≡ absOf (at w (getD rest 0 0))
-    → halvesOf v b ≡ halvedOnce plusZero u n ω rest (halvesOf w a)
-    → halvesOf t c ≡ halvedOnce plusZero u n ω rest (halvesOf v b)
+    → halvesOf v b ≡ halvedOnce plusZero matrix n ω rest (halvesOf w a)
+    → halvesOf t c ≡ halvedOnce plusZero matrix n ω rest (halvesOf v b)
     → out ≡ normalized plusZero t
-    → halvesOf out c ≡ passOf plusZero u n (halvesOf w a)
+    → halvesOf out c ≡ passOf plusZero matrix n (halvesOf w a)
 unfolding passOf halvedTwice
-pass-holds u n w v t out rest ω a b c is-rest is-omega first second divided =
-    let twice : halvesOf t c ≡ halvedTwice plusZero u n (halvesOf w a) =
-    second ∙ ap (halvedOnce plusZero u n ω rest) first ∙ rw (is-omega, is-rest) in
+pass-holds matrix n w v t out rest ω a b c is-rest is-omega first second divided =
+    let twice : halvesOf t c ≡ halvedTwice plusZero matrix n (halvesOf w a) =
+    second ∙ ap (halvedOnce plusZero matrix n ω rest) first ∙ rw (is-omega, is-rest) in
     rw (← twice) (ap (λ (v : List Float). halvesOf v c) divided)

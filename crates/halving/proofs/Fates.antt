@@ -69,13 +69,13 @@ pub data Moved (w : List Float) (rest : List ℕ) (j : ℕ) (v : Float) : Type 0
   doubled : isOn w j ≡ true → Among rest j → v ≡ mul binary64 two (at w j) → Moved w rest j v
   zeroed : isOn w j ≡ true → Among rest j → v ≡ plusZero → Moved w rest j v
 
-module _ (z : Float) (u : ℕ → ℕ → Float) (n : ℕ) (ω : Float) (rest : List ℕ) (h : Halved) where
+module _ (z : Float) (matrix : ℕ → ℕ → Float) (n : ℕ) (ω : Float) (rest : List ℕ) (h : Halved) where
   -- the colours of the remaining rest
   abbrev pub coloursOf : List Float
-  coloursOf = coloringOf z (scaledColumns u n (h .w) ω (remaining (h .w) rest)) (length (remaining (h .w) rest)) (suc n) (h .rng) .x
+  coloursOf = coloringOf z (scaledColumns matrix n (h .w) ω (remaining (h .w) rest)) (length (remaining (h .w) rest)) (suc n) (h .rng) .x
 
   -- where none remain nothing is halved, as the definition of k turns has it for k = 0 too
-  pub halved-is : halvedOnce z u n ω rest h .w ≡ halvedTo (h .w) (remaining (h .w) rest) coloursOf (sigmaOf coloursOf) (length (remaining (h .w) rest))
+  pub halved-is : halvedOnce z matrix n ω rest h .w ≡ halvedTo (h .w) (remaining (h .w) rest) coloursOf (sigmaOf coloursOf) (length (remaining (h .w) rest))
   unfolding halvedOnce
   halved-is = go (eqb (length r) 0) refl
     where
@@ -83,7 +83,7 @@ module _ (z : Float) (u : ℕ → ℕ → Float) (n : ℕ) (ω : Float) (rest : 
       r = remaining (h .w) rest
 
       c : Colored
-      c = coloringOf z (scaledColumns u n (h .w) ω r) (length r) (suc n) (h .rng)
+      c = coloringOf z (scaledColumns matrix n (h .w) ω r) (length r) (suc n) (h .rng)
 
       after : Halved
       after = halvedBy h r c
@@ -95,7 +95,7 @@ module _ (z : Float) (u : ℕ → ℕ → Float) (n : ℕ) (ω : Float) (rest : 
       go true e = nothing (length r) (eqb-true (length r) 0 e)
       go false e = refl
 
-  pub length-once : length (halvedOnce z u n ω rest h .w) ≡ length (h .w)
+  pub length-once : length (halvedOnce z matrix n ω rest h .w) ≡ length (h .w)
   length-once = ap length halved-is ∙ length-halved (h .w) (remaining (h .w) rest) coloursOf (sigmaOf coloursOf) (length (remaining (h .w) rest))
 
   module _ (d : Distinct rest) (inside : (p : ℕ) → p < length rest → getD rest p 0 < length (h .w)) where
@@ -107,17 +107,17 @@ module _ (z : Float) (u : ℕ → ℕ → Float) (n : ℕ) (ω : Float) (rest : 
     within p l = let a = every-at those p l .1 in rw (← a .there) (inside (a .place) (a .under))
 
     pub fate-once : (j : ℕ) → Fate (h .w) (remaining (h .w) rest) coloursOf (sigmaOf coloursOf) (length (remaining (h .w) rest)) j
-        (at (halvedOnce z u n ω rest h .w) j)
+        (at (halvedOnce z matrix n ω rest h .w) j)
     fate-once j =
         rw halved-is (fate (h .w) (remaining (h .w) rest) coloursOf (sigmaOf coloursOf)
         (distinct-those (isOn (h .w)) d (length rest) (omega arith)) within (length (remaining (h .w) rest)) (omega arith)
         j)
 
-    pub moved-once : (j : ℕ) → Moved (h .w) rest j (at (halvedOnce z u n ω rest h .w) j)
+    pub moved-once : (j : ℕ) → Moved (h .w) rest j (at (halvedOnce z matrix n ω rest h .w) j)
     moved-once j = go (fate-once j)
       where
         v : Float
-        v = at (halvedOnce z u n ω rest h .w) j
+        v = at (halvedOnce z matrix n ω rest h .w) j
 
         way : (t : Bool) → isOn (h .w) j ≡ true → Among rest j → v ≡ pick t (mul binary64 two (at (h .w) j)) plusZero → Moved (h .w) rest j v
         way true o a e = doubled o a e

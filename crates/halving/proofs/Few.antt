@@ -65,22 +65,22 @@ held-any w h j = go (decLt j (length w))
     go (yes l) = h j l .held
     go (no l) = subst (λ (v : Float). T (fits binary64 v)) (sym (List·getD-eq-default w nan (omega arith))) (unfold fits in tt)
 
-module _ (u : ℕ → ℕ → Float) (n : ℕ) (h : Halved) (some : 2 ≤ nonzeros (h .w)) (few : nonzeros (h .w) ≤ 4) where
+module _ (matrix : ℕ → ℕ → Float) (n : ℕ) (h : Halved) (some : 2 ≤ nonzeros (h .w)) (few : nonzeros (h .w) ≤ 4) where
   -- the weights after each halving, the rest, and the colours of the first halving
   abbrev once : List Float
-  once = first plusZero u n h .w
+  once = first plusZero matrix n h .w
 
   abbrev twice : List Float
-  twice = second plusZero u n h .w
+  twice = second plusZero matrix n h .w
 
   abbrev others : List ℕ
   others = restOf (h .w)
 
   abbrev x : List Float
-  x = coloursOf plusZero u n (omegaOf (h .w)) others h
+  x = coloursOf plusZero matrix n (omegaOf (h .w)) others h
 
   inside : (p : ℕ) → p < length others → getD others p 0 < length once
-  inside p l = rw (long-first plusZero u n h) (rest-on (h .w) p l .below)
+  inside p l = rw (long-first plusZero matrix n h) (rest-on (h .w) p l .below)
 
   at-most-three : length others ≤ 3
   at-most-three = rw length-rest (omega arith)
@@ -88,7 +88,7 @@ module _ (u : ℕ → ℕ → Float) (n : ℕ) (h : Halved) (some : 2 ≤ nonzer
   -- what the first halving makes of a weight of the rest
   first-is : (p : ℕ) → p < length others → at once (getD others p 0) ≡ pick (eq (at x p) (sigmaOf x)) (mul binary64 two (at (h .w) (getD others p 0))) plusZero
   first-is p l =
-      go (rw (whole-rest plusZero u n h some) at (fate-once plusZero u n (omegaOf (h .w)) others h (rest-distinct (h .w))
+      go (rw (whole-rest plusZero matrix n h some) at (fate-once plusZero matrix n (omegaOf (h .w)) others h (rest-distinct (h .w))
       (λ q k. rest-on (h .w) q k .below) (getD others p 0)))
     where
       j : ℕ
@@ -103,8 +103,8 @@ module _ (u : ℕ → ℕ → Float) (n : ℕ) (h : Halved) (some : 2 ≤ nonzer
   one-left =
       omega (
         arith,
-        half-left plusZero u n (omegaOf (h .w)) others h (rest-distinct (h .w)) (λ p l. rest-on (h .w) p l .below),
-        ap length (whole-rest plusZero u n h some),
+        half-left plusZero matrix n (omegaOf (h .w)) others h (rest-distinct (h .w)) (λ p l. rest-on (h .w) p l .below),
+        ap length (whole-rest plusZero matrix n h some),
         at-most-three,
       )
 
@@ -120,16 +120,16 @@ module _ (u : ℕ → ℕ → Float) (n : ℕ) (h : Halved) (some : 2 ≤ nonzer
 
     -- after the second all of the rest are +0.0
     rest-gone : (p : ℕ) → p < length others → at twice (getD others p 0) ≡ plusZero
-    rest-gone p l = go (fate-once plusZero u n (omegaOf (h .w)) others (first plusZero u n h) (rest-distinct (h .w)) inside j)
+    rest-gone p l = go (fate-once plusZero matrix n (omegaOf (h .w)) others (first plusZero matrix n h) (rest-distinct (h .w)) inside j)
       where
         j : ℕ
         j = getD others p 0
 
         y : List Float
-        y = coloursOf plusZero u n (omegaOf (h .w)) others (first plusZero u n h)
+        y = coloursOf plusZero matrix n (omegaOf (h .w)) others (first plusZero matrix n h)
 
         left : (k : ℕ) → length (remaining once others) ≡ k → Coloured k y
-        left k e = subst (λ i. Coloured i y) e (colours plusZero _ (length (remaining once others)) (suc n) (first plusZero u n h .rng))
+        left k e = subst (λ i. Coloured i y) e (colours plusZero _ (length (remaining once others)) (suc n) (first plusZero matrix n h .rng))
 
         -- a lone one goes
         alone : (q : ℕ) → q < length (remaining once others) → eq (at y q) (sigmaOf y) ≡ false
@@ -149,7 +149,7 @@ module _ (u : ℕ → ℕ → Float) (n : ℕ) (h : Halved) (some : 2 ≤ nonzer
     top = getD (ranked (h .w)) 0 0
 
     top-stays : at twice top ≡ at (h .w) top
-    top-stays = heaviest-stays plusZero u n h
+    top-stays = heaviest-stays plusZero matrix n h
 
     -- every other weight that is not 0 is of the rest
     others-have : (j : ℕ) → j < length (h .w) → isOn (h .w) j ≡ true → (j ≡ top → ⊥) → Among others j
@@ -181,7 +181,7 @@ module _ (u : ℕ → ℕ → Float) (n : ℕ) (h : Halved) (some : 2 ≤ nonzer
       where
         go : (t : Bool) → isOn (h .w) j ≡ t → Nothing (at twice j)
         go true o = rw (others-gone j l o d ∙ nought-is) (record { is = tt; held = nought-finite binary64 false })
-        go false o = rw (off-stays plusZero u n h j o) (record { is = off-zero (at (h .w) j) o; held = ends j l })
+        go false o = rw (off-stays plusZero matrix n h j o) (record { is = off-zero (at (h .w) j) o; held = ends j l })
 
     top-under : top < length (h .w)
     top-under = ranked-on (h .w) 0 (rw length-ranked (omega arith)) .below
@@ -194,18 +194,18 @@ module _ (u : ℕ → ℕ → Float) (n : ℕ) (h : Halved) (some : 2 ≤ nonzer
         go (no d) = nothing-else j l d .held
 
     -- the sum is the magnitude of the one that is kept
-    sum-is : sum plusZero u n h ≡ absOf (at (h .w) top)
+    sum-is : sum plusZero matrix n h ≡ absOf (at (h .w) top)
     sum-is =
-        l1-is twice (length (h .w)) (long-second plusZero u n h)
+        l1-is twice (length (h .w)) (long-second plusZero matrix n h)
         ∙ lone-sum binary64 (at twice) (length (h .w)) top top-under twice-ends (λ j l d. nothing-else j l d .is)
         ∙ ap absOf top-stays
 
   module _ (normal : Normal binary64 (length (h .w)) (at (h .w))) (short : length (h .w) ≤ 256) where
     abbrev after : List Float
-    after = passOf plusZero u n h .w
+    after = passOf plusZero matrix n h .w
 
-    sound-here : sound (sum plusZero u n h) ≡ true
-    sound-here = sum-sound u n h some normal short
+    sound-here : sound (sum plusZero matrix n h) ≡ true
+    sound-here = sum-sound matrix n h some normal short
 
     top-on : isOn (h .w) (getD (ranked (h .w)) 0 0) ≡ true
     top-on = ranked-on (h .w) 0 (rw length-ranked (omega arith)) .on
@@ -216,22 +216,23 @@ module _ (u : ℕ → ℕ → Float) (n : ℕ) (h : Halved) (some : 2 ≤ nonzer
         let p : Finite binary64 (at (h .w) t) = normal .ends t (top-under (normal .ends)) in
         let m : 0 < mag binary64 (at (h .w) t) = ltb-true 0 (mag binary64 (at (h .w) t))
         (sym (nonzero-is (finite-number p)) ∙ sym (ap (ne (at (h .w) t)) nought-is) ∙ top-on) in
-        pass-at plusZero u n h t (top-under (normal .ends))
-        ∙ ap (λ v. div binary64 v (sum plusZero u n h)) (top-stays (normal .ends))
+        pass-at plusZero matrix n h t (top-under (normal .ends))
+        ∙ ap (λ v. div binary64 v (sum plusZero matrix n h)) (top-stays (normal .ends))
         ∙ ap (div binary64 (at (h .w) t)) (sum-is (normal .ends))
         ∙ over-itself p m
         ∙ signum-is (at (h .w) t) (p .ends)
 
     other-none : (j : ℕ) → j < length (h .w) → isOn (h .w) j ≡ true → (j ≡ top (normal .ends) → ⊥) → at after j ≡ plusZero
     other-none j l o d =
-        pass-at plusZero u n h j l
-        ∙ ap (λ v. div binary64 v (sum plusZero u n h)) (others-gone (normal .ends) j l o d ∙ nought-is)
-        ∙ zero-over-is binary64 false (pos 0) (sum plusZero u n h) (sound-above (sum plusZero u n h) sound-here) (sound-finite (sum plusZero u n h) sound-here)
+        pass-at plusZero matrix n h j l
+        ∙ ap (λ v. div binary64 v (sum plusZero matrix n h)) (others-gone (normal .ends) j l o d ∙ nought-is)
+        ∙ zero-over-is binary64 false (pos 0) (sum plusZero matrix n h) (sound-above (sum plusZero matrix n h) sound-here)
+        (sound-finite (sum plusZero matrix n h) sound-here)
         ∙ sym nought-is
 
     first-alone : Alone (h .w) after (top (normal .ends))
     first-alone = record {
-      long = length-pass plusZero u n h;
+      long = length-pass plusZero matrix n h;
       there = top-one;
       gone = other-none;
       off = λ j l d. go j l d (isOn (h .w) j) refl;
@@ -239,7 +240,7 @@ module _ (u : ℕ → ℕ → Float) (n : ℕ) (h : Halved) (some : 2 ≤ nonzer
       where
         go : (j : ℕ) → j < length (h .w) → (j ≡ top (normal .ends) → ⊥) → (t : Bool) → isOn (h .w) j ≡ t → isOn after j ≡ false
         go j l d true o = rw (other-none j l o d) plus-zero-off
-        go j l d false o = pass-off plusZero u n h sound-here j l (rw (off-stays plusZero u n h j o) o)
+        go j l d false o = pass-off plusZero matrix n h sound-here j l (rw (off-stays plusZero matrix n h j o) o)
 
     -- C8: there is a largest weight, and the pass leaves it alone
     pub some-largest : Largest (h .w) (getD (ranked (h .w)) 0 0)

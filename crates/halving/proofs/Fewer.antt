@@ -50,36 +50,36 @@ zero-stays w rest j v o (stays e) = e
 zero-stays w rest j v o (doubled t a e) = absurd (never t o)
 zero-stays w rest j v o (zeroed t a e) = absurd (never t o)
 
-module _ (z : Float) (u : ℕ → ℕ → Float) (n : ℕ) (h : Halved) where
+module _ (z : Float) (matrix : ℕ → ℕ → Float) (n : ℕ) (h : Halved) where
   abbrev pub first : Halved
-  first = halvedOnce z u n (omegaOf (h .w)) (restOf (h .w)) h
+  first = halvedOnce z matrix n (omegaOf (h .w)) (restOf (h .w)) h
 
   abbrev pub second : Halved
-  second = halvedOnce z u n (omegaOf (h .w)) (restOf (h .w)) first
+  second = halvedOnce z matrix n (omegaOf (h .w)) (restOf (h .w)) first
 
   abbrev pub sum : Float
   sum = l1Of z (second .w)
 
   pub long-first : length (first .w) ≡ length (h .w)
-  long-first = length-once z u n (omegaOf (h .w)) (restOf (h .w)) h
+  long-first = length-once z matrix n (omegaOf (h .w)) (restOf (h .w)) h
 
   pub long-second : length (second .w) ≡ length (h .w)
-  long-second = length-once z u n (omegaOf (h .w)) (restOf (h .w)) first ∙ long-first
+  long-second = length-once z matrix n (omegaOf (h .w)) (restOf (h .w)) first ∙ long-first
 
   -- as many weights as before
-  pub length-pass : length (passOf z u n h .w) ≡ length (h .w)
+  pub length-pass : length (passOf z matrix n h .w) ≡ length (h .w)
   unfolding passOf halvedTwice normalized
   length-pass = length-tab (overAt sum (second .w)) (length (second .w)) ∙ long-second
 
-  pub pass-at : (j : ℕ) → j < length (h .w) → at (passOf z u n h .w) j ≡ div binary64 (at (second .w) j) sum
+  pub pass-at : (j : ℕ) → j < length (h .w) → at (passOf z matrix n h .w) j ≡ div binary64 (at (second .w) j) sum
   unfolding passOf halvedTwice normalized
   pass-at j l = getD-tab (overAt sum (second .w)) (length (second .w)) j nan (rw long-second l)
 
   moved-first : (j : ℕ) → Moved (h .w) (restOf (h .w)) j (at (first .w) j)
-  moved-first = moved-once z u n (omegaOf (h .w)) (restOf (h .w)) h (rest-distinct (h .w)) (λ p l. rest-on (h .w) p l .below)
+  moved-first = moved-once z matrix n (omegaOf (h .w)) (restOf (h .w)) h (rest-distinct (h .w)) (λ p l. rest-on (h .w) p l .below)
 
   moved-second : (j : ℕ) → Moved (first .w) (restOf (h .w)) j (at (second .w) j)
-  moved-second = moved-once z u n (omegaOf (h .w)) (restOf (h .w)) first (rest-distinct (h .w)) (λ p l. rw long-first (rest-on (h .w) p l .below))
+  moved-second = moved-once z matrix n (omegaOf (h .w)) (restOf (h .w)) first (rest-distinct (h .w)) (λ p l. rw long-first (rest-on (h .w) p l .below))
 
   after-zero : (j : ℕ) → isOn (first .w) j ≡ false → at (second .w) j ≡ at (first .w) j
   after-zero j o = zero-stays (first .w) (restOf (h .w)) j (at (second .w) j) o (moved-second j)
@@ -91,11 +91,11 @@ module _ (z : Float) (u : ℕ → ℕ → Float) (n : ℕ) (h : Halved) where
 
   module _ (good : sound sum ≡ true) where
     -- what is zero before the division is zero after it
-    pub pass-off : (j : ℕ) → j < length (h .w) → isOn (second .w) j ≡ false → isOn (passOf z u n h .w) j ≡ false
+    pub pass-off : (j : ℕ) → j < length (h .w) → isOn (second .w) j ≡ false → isOn (passOf z matrix n h .w) j ≡ false
     pass-off j l o = rw (pass-at j l) (off-over (at (second .w) j) sum o good)
 
     -- a weight that is not 0 after the pass was not before
-    pub pass-on : (j : ℕ) → j < length (h .w) → isOn (passOf z u n h .w) j ≡ true → isOn (h .w) j ≡ true
+    pub pass-on : (j : ℕ) → j < length (h .w) → isOn (passOf z matrix n h .w) j ≡ true → isOn (h .w) j ≡ true
     pass-on j l o = go (isOn (h .w) j) refl
       where
         go : (t : Bool) → isOn (h .w) j ≡ t → t ≡ true
@@ -116,13 +116,13 @@ module _ (z : Float) (u : ℕ → ℕ → Float) (n : ℕ) (h : Halved) where
       is : at (first .w) index ≡ plusZero
 
     one-gone : Gone
-    one-gone = go (fate-once z u n (omegaOf (h .w)) (restOf (h .w)) h (rest-distinct (h .w)) (λ p l. rest-on (h .w) p l .below) (getD r (lost .place) 0))
+    one-gone = go (fate-once z matrix n (omegaOf (h .w)) (restOf (h .w)) h (rest-distinct (h .w)) (λ p l. rest-on (h .w) p l .below) (getD r (lost .place) 0))
       where
         r : List ℕ
         r = remaining (h .w) (restOf (h .w))
 
         x : List Float
-        x = coloursOf z u n (omegaOf (h .w)) (restOf (h .w)) h
+        x = coloursOf z matrix n (omegaOf (h .w)) (restOf (h .w)) h
 
         lost : Fails (λ p. eq (at x p) (sigmaOf x)) (length r)
         lost = minority (colours z _ (length r) (suc n) (h .rng)) (rw whole-rest (rest-some (h .w) some))
@@ -145,15 +145,15 @@ module _ (z : Float) (u : ℕ → ℕ → Float) (n : ℕ) (h : Halved) where
             record { index = j; was = of-rest r whole-rest (lost .place) (lost .under); is = v ∙ put q same }
 
     -- a pass leaves strictly fewer
-    pub pass-fewer : sound sum ≡ true → nonzeros (passOf z u n h .w) < nonzeros (h .w)
+    pub pass-fewer : sound sum ≡ true → nonzeros (passOf z matrix n h .w) < nonzeros (h .w)
     pass-fewer good =
         let g = one-gone in
         let off : isOn (first .w) (g .index) ≡ false = rw (g .is) plus-zero-off in
         let off-too : isOn (second .w) (g .index) ≡ false = rw (after-zero (g .index) off) off in
-        let off-after : isOn (passOf z u n h .w) (g .index) ≡ false = pass-off good (g .index) (g .was .below) off-too in
+        let off-after : isOn (passOf z matrix n h .w) (g .index) ≡ false = pass-off good (g .index) (g .was .below) off-too in
         rw length-pass
-        (count-lt (isOn (passOf z u n h .w)) (isOn (h .w)) (length (h .w)) (g .index)
-        (λ j l t. subst T (sym (pass-on good j l (true-of (isOn (passOf z u n h .w) j) t))) tt)
+        (count-lt (isOn (passOf z matrix n h .w)) (isOn (h .w)) (length (h .w)) (g .index)
+        (λ j l t. subst T (sym (pass-on good j l (true-of (isOn (passOf z matrix n h .w) j) t))) tt)
         (g .was .below)
         (subst (λ (b : Bool). T (not b)) (sym off-after) tt)
         (subst T (sym (g .was .on)) tt))
@@ -183,11 +183,11 @@ not-among w rest j v n (doubled o a e) = absurd (n a)
 not-among w rest j v n (zeroed o a e) = absurd (n a)
 
 -- the heaviest of all is none of the rest, and stays
-module _ (z : Float) (u : ℕ → ℕ → Float) (n : ℕ) (h : Halved) where
-  pub heaviest-stays : at (second z u n h .w) (getD (ranked (h .w)) 0 0) ≡ at (h .w) (getD (ranked (h .w)) 0 0)
+module _ (z : Float) (matrix : ℕ → ℕ → Float) (n : ℕ) (h : Halved) where
+  pub heaviest-stays : at (second z matrix n h .w) (getD (ranked (h .w)) 0 0) ≡ at (h .w) (getD (ranked (h .w)) 0 0)
   heaviest-stays =
-      not-among (first z u n h .w) (restOf (h .w)) top (at (second z u n h .w) top) apart (moved-second z u n h top)
-      ∙ not-among (h .w) (restOf (h .w)) top (at (first z u n h .w) top) apart (moved-first z u n h top)
+      not-among (first z matrix n h .w) (restOf (h .w)) top (at (second z matrix n h .w) top) apart (moved-second z matrix n h top)
+      ∙ not-among (h .w) (restOf (h .w)) top (at (first z matrix n h .w) top) apart (moved-first z matrix n h top)
     where
       top : ℕ
       top = getD (ranked (h .w)) 0 0
@@ -195,22 +195,22 @@ module _ (z : Float) (u : ℕ → ℕ → Float) (n : ℕ) (h : Halved) where
       apart : Among (restOf (h .w)) top → ⊥
       apart a = first-kept (h .w) (a .place) (a .under) (a .there)
 
-module _ (u : ℕ → ℕ → Float) (n : ℕ) (h : Halved) (some : 2 ≤ nonzeros (h .w)) where
+module _ (matrix : ℕ → ℕ → Float) (n : ℕ) (h : Halved) (some : 2 ≤ nonzeros (h .w)) where
   abbrev after : List Float
-  after = passOf plusZero u n h .w
+  after = passOf plusZero matrix n h .w
 
   -- a pass is a step: the heaviest weight is kept, every other is kept, doubled once or twice, or zeroed
   pub pass-step : Step binary64 (length (h .w)) (at (h .w)) (at after)
   pass-step =
       record {
-        turned = at (second plusZero u n h .w);
-        each = λ j l. both-moves (h .w) (first plusZero u n h .w) (restOf (h .w)) j (at (second plusZero u n h .w) j)
-            (moved-first plusZero u n h j) (moved-second plusZero u n h j);
+        turned = at (second plusZero matrix n h .w);
+        each = λ j l. both-moves (h .w) (first plusZero matrix n h .w) (restOf (h .w)) j (at (second plusZero matrix n h .w) j)
+            (moved-first plusZero matrix n h j) (moved-second plusZero matrix n h j);
         keeps = top;
         inside = top-on .below;
-        kept-as = heaviest-stays plusZero u n h;
+        kept-as = heaviest-stays plusZero matrix n h;
         support = subst T (sym (ap (ne (at (h .w) top)) (sym nought-is) ∙ top-on .on)) tt;
-        divided = λ j l. pass-at plusZero u n h j l ∙ ap (div binary64 (at (second plusZero u n h .w) j)) sum-is;
+        divided = λ j l. pass-at plusZero matrix n h j l ∙ ap (div binary64 (at (second plusZero matrix n h .w) j)) sum-is;
       }
     where
       top : ℕ
@@ -219,22 +219,22 @@ module _ (u : ℕ → ℕ → Float) (n : ℕ) (h : Halved) (some : 2 ≤ nonzer
       top-on : On (h .w) top
       top-on = ranked-on (h .w) 0 (rw length-ranked (omega arith))
 
-      sum-is : l1Of plusZero (second plusZero u n h .w) ≡ l1 binary64 (at (second plusZero u n h .w)) (length (h .w))
-      sum-is = l1-is (second plusZero u n h .w) (length (h .w)) (long-second plusZero u n h)
+      sum-is : l1Of plusZero (second plusZero matrix n h .w) ≡ l1 binary64 (at (second plusZero matrix n h .w)) (length (h .w))
+      sum-is = l1-is (second plusZero matrix n h .w) (length (h .w)) (long-second plusZero matrix n h)
 
   module _ (normal : Normal binary64 (length (h .w)) (at (h .w))) (few : length (h .w) ≤ 256) where
     -- before the division every weight is finite
-    pub second-ends : (j : ℕ) → j < length (h .w) → Finite binary64 (at (second plusZero u n h .w) j)
+    pub second-ends : (j : ℕ) → j < length (h .w) → Finite binary64 (at (second plusZero matrix n h .w) j)
     unfolding pass-step
     second-ends = pass-ends binary64 (length (h .w)) (at (h .w)) (pass-step .turned) normal (pass-step .each)
 
-    pub sum-positive : Positive binary64 (l1Of plusZero (second plusZero u n h .w))
+    pub sum-positive : Positive binary64 (l1Of plusZero (second plusZero matrix n h .w))
     unfolding pass-step
-    sum-positive = rw (l1-is (second plusZero u n h .w) (length (h .w)) (long-second plusZero u n h)) (step-sum normal few pass-step)
+    sum-positive = rw (l1-is (second plusZero matrix n h .w) (length (h .w)) (long-second plusZero matrix n h)) (step-sum normal few pass-step)
 
     -- what a pass divides by is above 0 and finite: entries are at most 1, two doublings make at most 4 of one, and one that is kept stays nonzero
-    pub sum-sound : sound (sum plusZero u n h) ≡ true
-    sum-sound = positive-sound (sum plusZero u n h) (tests-of-positive sum-positive) (sum-positive .fin .ends)
+    pub sum-sound : sound (sum plusZero matrix n h) ≡ true
+    sum-sound = positive-sound (sum plusZero matrix n h) (tests-of-positive sum-positive) (sum-positive .fin .ends)
 
     -- the weights are normalised again
     pub pass-normal : Normal binary64 (length (h .w)) (at after)

@@ -134,8 +134,8 @@ module _ (w : List Float) (doubles : (j : ℕ) → T (fits binary64 (at w j))) w
       go j n a = at-place (a .place) (a .under) (a .there)
         where
           at-place : (p : ℕ) → p < length (ranked w) → getD (ranked w) p 0 ≡ j → heavier w (getD (ranked w) 0 0) j ≡ true
-          at-place zero u e = absurd (n (sym e))
-          at-place (suc p) u e = rw e at (led-at ranked-led p u)
+          at-place zero matrix e = absurd (n (sym e))
+          at-place (suc p) matrix e = rw e at (led-at ranked-led p matrix)
 
   -- there is no other
   pub one-largest : (i k : ℕ) → Largest w i → Largest w k → i ≡ k

@@ -82,7 +82,7 @@ has-keep f (suc k) j l e = go (f k) refl (ℕ-discrete j k) (has-keep f k j)
     go : (t : Bool) → f k ≡ t → Dec (j ≡ k) → (j < k → f j ≡ true → Has j (keep f k)) → Has j (pick t (keep f k ++ (k ∷ [])) (keep f k))
     go true g (yes s) r = rw s (has-last k (keep f k))
     go true g (no s) r = has-end k (r (omega arith) e)
-    go false g (yes s) r = let u : _≡_ {A = Bool} true false = sym e ∙ ap f s ∙ g in let z : _≡_ {A = ℕ} 0 1 = cc in absurd (omega arith)
+    go false g (yes s) r = let matrix : _≡_ {A = Bool} true false = sym e ∙ ap f s ∙ g in let z : _≡_ {A = ℕ} 0 1 = cc in absurd (omega arith)
     go false g (no s) r = r (omega arith) e
 
 -- and of some indices all that pass are chosen
@@ -95,7 +95,7 @@ has-those f xs (suc k) p l e = go (f (getD xs k 0)) refl (ℕ-discrete p k) (has
         → Has (getD xs p 0) (pick t (thoseTo f xs k ++ (getD xs k 0 ∷ [])) (thoseTo f xs k))
     go true g (yes s) r = rw s (has-last (getD xs k 0) (thoseTo f xs k))
     go true g (no s) r = has-end (getD xs k 0) (r (omega arith) e)
-    go false g (yes s) r = let u : _≡_ {A = Bool} true false = sym e ∙ ap (λ (i : ℕ). f (getD xs i 0)) s ∙ g in let z : _≡_
+    go false g (yes s) r = let matrix : _≡_ {A = Bool} true false = sym e ∙ ap (λ (i : ℕ). f (getD xs i 0)) s ∙ g in let z : _≡_
         {A = ℕ} 0 1 = cc in absurd (omega arith)
     go false g (no s) r = r (omega arith) e
 

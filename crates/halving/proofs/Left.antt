@@ -169,9 +169,10 @@ normalized-some w ends few positive = go (length w) refl
         count-some (isOn (normalized plusZero w)) (length (normalized plusZero w)) i (rw (length-tab (overAt (l1Of plusZero w) w) (length w)) l) (rw same on)
 
 -- and so have the weights after a pass
-pub pass-some : (u : ℕ → ℕ → Float) (n : ℕ) (h : Halved) → 2 ≤ nonzeros (h .w) → Normal binary64 (length (h .w)) (at (h .w)) → length (h .w) ≤ 256
-    → 1 ≤ nonzeros (passOf plusZero u n h .w)
+pub pass-some : (matrix : ℕ → ℕ → Float) (n : ℕ) (h : Halved) → 2 ≤ nonzeros (h .w) → Normal binary64 (length (h .w)) (at (h .w)) → length (h .w) ≤ 256
+    → 1 ≤ nonzeros (passOf plusZero matrix n h .w)
 unfolding passOf halvedTwice
-pass-some u n h some normal few =
-    let long = long-second plusZero u n h in
-    normalized-some (second plusZero u n h .w) (λ j l. second-ends u n h some normal few j (omega arith)) (omega arith) (sum-positive u n h some normal few)
+pass-some matrix n h some normal few =
+    let long = long-second plusZero matrix n h in
+    normalized-some (second plusZero matrix n h .w) (λ j l. second-ends matrix n h some normal few j (omega arith)) (omega arith)
+    (sum-positive matrix n h some normal few)

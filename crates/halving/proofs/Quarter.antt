@@ -30,24 +30,24 @@ use Rattle.halving.proofs.Fewer.{never, true-of, zero-stays, first, sec
 use Rattle.halving.proofs.Holding.{Has, has-among, has-at, has-left, has-right, has-those, length-those, no-longer}
 use Rattle.halving.proofs.Heaviest.{ranked-has}
 
-module _ (z : Float) (u : ℕ → ℕ → Float) (n : ℕ) (ω : Float) (rest : List ℕ) (h : Halved) (d : Distinct rest)
+module _ (z : Float) (matrix : ℕ → ℕ → Float) (n : ℕ) (ω : Float) (rest : List ℕ) (h : Halved) (d : Distinct rest)
     (inside : (p : ℕ) → p < length rest → getD rest p 0 < length (h .w)) where
   -- those that remain, their colours, and the weights after the halving
   abbrev r : List ℕ
   r = remaining (h .w) rest
 
   abbrev x : List Float
-  x = coloursOf z u n ω rest h
+  x = coloursOf z matrix n ω rest h
 
   abbrev after : List Float
-  after = halvedOnce z u n ω rest h .w
+  after = halvedOnce z matrix n ω rest h .w
 
   distinct-r : Distinct r
   distinct-r = distinct-those (isOn (h .w)) d (length rest) (omega arith)
 
   -- one that is left had the colour σ
   left-coloured : (q : ℕ) → q < length r → T (isOn after (getD r q 0)) → T (eq (at x q) (sigmaOf x))
-  left-coloured q l o = go (fate-once z u n ω rest h d inside (getD r q 0))
+  left-coloured q l o = go (fate-once z matrix n ω rest h d inside (getD r q 0))
     where
       j : ℕ
       j = getD r q 0
@@ -65,7 +65,7 @@ module _ (z : Float) (u : ℕ → ℕ → Float) (n : ℕ) (ω : Float) (rest : 
   left-before j (o, a) = go (isOn (h .w) j) refl
     where
       go : (t : Bool) → isOn (h .w) j ≡ t → Has j (thoseTo (isOn after) r (length r))
-      go false e = absurd (never o (rw (zero-stays (h .w) rest j (at after j) e (moved-once z u n ω rest h d inside j)) e))
+      go false e = absurd (never o (rw (zero-stays (h .w) rest j (at after j) e (moved-once z matrix n ω rest h d inside j)) e))
       go true e =
           let b = has-among (has-those (isOn (h .w)) rest (length rest) (a .place) (a .under) (rw (a .there) e)) in
           let s : getD r (b .place) 0 ≡ j = b .there ∙ a .there in
@@ -81,10 +81,10 @@ module _ (z : Float) (u : ℕ → ℕ → Float) (n : ℕ) (ω : Float) (rest : 
       let c : Coloured (length r) x = colours z _ (length r) (suc n) (h .rng) in
       omega (arith, fewer, a, b, at-most-half c)
 
-module _ (z : Float) (u : ℕ → ℕ → Float) (n : ℕ) (h : Halved) where
+module _ (z : Float) (matrix : ℕ → ℕ → Float) (n : ℕ) (h : Halved) where
   -- the weights before the division, the rest, and how many are kept
   abbrev twice : List Float
-  twice = second z u n h .w
+  twice = second z matrix n h .w
 
   abbrev others : List ℕ
   others = restOf (h .w)
@@ -111,7 +111,7 @@ module _ (z : Float) (u : ℕ → ℕ → Float) (n : ℕ) (h : Halved) where
           (rw (length-drop some-kept (ranked (h .w))) (omega arith)) (rw f o)))
 
       go : (t : Bool) → isOn (h .w) j ≡ t → Has j (take some-kept (ranked (h .w)) ++ remaining twice others)
-      go false e = absurd (never o (rw (off-stays z u n h j e) e))
+      go false e = absurd (never o (rw (off-stays z matrix n h j e) e))
       go true e = let a = ranked-has (h .w) j l e in place (a .place) (a .under) (a .there) (decLt (a .place) some-kept)
 
   kept-and-left : 2 ≤ nonzeros (h .w) → nonzeros twice ≤ keptCount (nonzeros (h .w)) + length (remaining twice others)
@@ -119,7 +119,7 @@ module _ (z : Float) (u : ℕ → ℕ → Float) (n : ℕ) (h : Halved) where
       let each : Every (λ j. Has j (take some-kept (ranked (h .w)) ++ remaining twice others)) (keep (isOn twice) (length twice)) =
       every-of (keep (isOn twice) (length twice)) (λ p l. let g = keep-good (isOn twice) (length twice) p l in left-has
       (getD (keep (isOn twice) (length twice)) p 0)
-      (subst (λ (k : ℕ). getD (keep (isOn twice) (length twice)) p 0 < k) (long-second z u n h) (g .1)) (g .0)) in
+      (subst (λ (k : ℕ). getD (keep (isOn twice) (length twice)) p 0 < k) (long-second z matrix n h) (g .1)) (g .0)) in
       let a = no-longer (take some-kept (ranked (h .w)) ++ remaining twice others) (distinct-keep (isOn twice) (length twice)) each in
       let b = length-keep (isOn twice) (length twice) in
       let c = length-append (take some-kept (ranked (h .w))) (remaining twice others) in
@@ -129,23 +129,24 @@ module _ (z : Float) (u : ℕ → ℕ → Float) (n : ℕ) (h : Halved) where
       omega (arith, a, b, c, k, f)
 
   -- what a pass leaves: what it keeps, and at most a quarter of the rest
-  pub pass-at-most : 2 ≤ nonzeros (h .w) → sound (sum z u n h) ≡ true → nonzeros (passOf z u n h .w)
+  pub pass-at-most : 2 ≤ nonzeros (h .w) → sound (sum z matrix n h) ≡ true → nonzeros (passOf z matrix n h .w)
       ≤ keptCount (nonzeros (h .w)) + (nonzeros (h .w) - keptCount (nonzeros (h .w))) / 2 / 2
   pass-at-most some good =
-      let a = half-left z u n (omegaOf (h .w)) others h (rest-distinct (h .w)) (λ p l. rest-on (h .w) p l .below) in
-      let b = half-left z u n (omegaOf (h .w)) others (first z u n h) (rest-distinct (h .w)) (λ p l. rw (long-first z u n h) (rest-on (h .w) p l .below)) in
-      let c : length (remaining (h .w) others) ≡ length others = ap length (whole-rest z u n h some) in
+      let a = half-left z matrix n (omegaOf (h .w)) others h (rest-distinct (h .w)) (λ p l. rest-on (h .w) p l .below) in
+      let b = half-left z matrix n (omegaOf (h .w)) others (first z matrix n h) (rest-distinct (h .w))
+      (λ p l. rw (long-first z matrix n h) (rest-on (h .w) p l .below)) in
+      let c : length (remaining (h .w) others) ≡ length others = ap length (whole-rest z matrix n h some) in
       let d : length others ≡ nonzeros (h .w) - keptCount (nonzeros (h .w)) = length-rest (h .w) in
-      let e : nonzeros (passOf z u n h .w) ≤ nonzeros twice = rw (length-pass z u n h, long-second z u n h)
-      (count-le (isOn (passOf z u n h .w)) (isOn twice) (length (h .w)) (λ j l t. stays j l t (isOn twice j) refl)) in
+      let e : nonzeros (passOf z matrix n h .w) ≤ nonzeros twice = rw (length-pass z matrix n h, long-second z matrix n h)
+      (count-le (isOn (passOf z matrix n h .w)) (isOn twice) (length (h .w)) (λ j l t. stays j l t (isOn twice j) refl)) in
       omega (arith, a, b, c, d, e, kept-and-left some)
     where
-      stays : (j : ℕ) → j < length (h .w) → T (isOn (passOf z u n h .w) j) → (t : Bool) → isOn twice j ≡ t → T t
+      stays : (j : ℕ) → j < length (h .w) → T (isOn (passOf z matrix n h .w) j) → (t : Bool) → isOn twice j ≡ t → T t
       stays j l o true e = tt
-      stays j l o false e = absurd (subst T (pass-off z u n h good j l e) o)
+      stays j l o false e = absurd (subst T (pass-off z matrix n h good j l e) o)
 
   -- so at most half of all, rounded down
-  pub pass-half : 2 ≤ nonzeros (h .w) → sound (sum z u n h) ≡ true → 2 * nonzeros (passOf z u n h .w) ≤ nonzeros (h .w)
+  pub pass-half : 2 ≤ nonzeros (h .w) → sound (sum z matrix n h) ≡ true → 2 * nonzeros (passOf z matrix n h .w) ≤ nonzeros (h .w)
   pass-half some good =
       let a = pass-at-most some good in
       omega arith

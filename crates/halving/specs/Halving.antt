@@ -9,13 +9,13 @@ use Rattle.halve.specs.Halve.{Halved, halvedOnce}
 
 -- twice
 unfoldable pub halvedTwice : Float → (ℕ → ℕ → Float) → ℕ → Halved → Halved
-halvedTwice z u n h =
+halvedTwice z matrix n h =
     let rest : List ℕ = restOf (h .w) in
     let omega : Float = omegaOf (h .w) in
-    halvedOnce z u n omega rest (halvedOnce z u n omega rest h)
+    halvedOnce z matrix n omega rest (halvedOnce z matrix n omega rest h)
 
 -- and divided by their sum of magnitudes
 unfoldable pub passOf : Float → (ℕ → ℕ → Float) → ℕ → Halved → Halved
-passOf z u n h =
-    let t : Halved = halvedTwice z u n h in
+passOf z matrix n h =
+    let t : Halved = halvedTwice z matrix n h in
     record { w = normalized z (t .w); rng = t .rng; directions = t .directions; sweeps = t .sweeps }

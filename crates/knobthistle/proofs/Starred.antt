@@ -346,9 +346,9 @@ case-6 rule seed edition output numbers indices r output' numbers' indices' c =
 -- ---- C7 and C14: refusals
 
 -- a job with a fault is refused by it, and its output stays
-refused : {rule : Rule} {source : SplitMix64} {u : List Float} {m n : ℕ} {w output numbers : List Float} {indices : List ℕ} {r : Answer}
+refused : {rule : Rule} {source : SplitMix64} {matrix : List Float} {m n : ℕ} {w output numbers : List Float} {indices : List ℕ} {r : Answer}
     {output' numbers' : List Float} {indices' : List ℕ} (k : ℕ)
-    → Thinned rule source u m n w output numbers indices r output' numbers' indices' → jobFault rule (source .edition) u m n w (length output)
+    → Thinned rule source matrix m n w output numbers indices r output' numbers' indices' → jobFault rule (source .edition) matrix m n w (length output)
     (length numbers) (length indices) ≡ suc k
     → (r ≡ refusal (suc k)) × (output' ≡ output)
 refused {r = r} k job f =
@@ -364,14 +364,14 @@ case-7 rule seed edition output numbers indices r output' numbers' indices' c kn
     refused 8 job
     (fault-is rule edition plusZero plusZero output numbers indices c known room ∙ fault-7)
 
-fault-14 : (edition : ℕ) (u : List Float) (m n : ℕ) (w : List Float) (output numbers indices : ℕ)
-    → jobFault (Within nan (AtMost 0)) edition u m n w output numbers indices ≡ 1
+fault-14 : (edition : ℕ) (matrix : List Float) (m n : ℕ) (w : List Float) (output numbers indices : ℕ)
+    → jobFault (Within nan (AtMost 0)) edition matrix m n w output numbers indices ≡ 1
 unfolding jobFault ofBits le lt eq
-fault-14 edition u m n w output numbers indices = refl
+fault-14 edition matrix m n w output numbers indices = refl
 
 case-14 : holds (refusesRule (Within nan (AtMost 0)) 1)
-case-14 seed edition u m n weights output numbers indices r output' numbers' indices' job = refused 0 job
-    (fault-14 edition u m n weights (length output) (length numbers) (length indices))
+case-14 seed edition matrix m n weights output numbers indices r output' numbers' indices' job = refused 0 job
+    (fault-14 edition matrix m n weights (length output) (length numbers) (length indices))
 
 -- ---- C10 and C11: draws
 

@@ -189,9 +189,9 @@ holds (thins weights rules answer written) =
 holds (onSheet rule answer) = (seed : ℕ) → seed < 2 ^ 64 → sheetAnswer (sheetWith rule seed) ≡ answer
 holds (refuses weights rules number) = called weights rules (λ output r output'. (r ≡ refusal number) × (output' ≡ output))
 holds (refusesRule rule number) =
-    (seed edition : ℕ) (u : List Float) (m n : ℕ) (weights output numbers : List Float) (indices : List ℕ)
+    (seed edition : ℕ) (matrix : List Float) (m n : ℕ) (weights output numbers : List Float) (indices : List ℕ)
     (r : Answer) (output' numbers' : List Float) (indices' : List ℕ)
-    → Thinned rule (seeded seed edition) u m n weights output numbers indices r output' numbers' indices'
+    → Thinned rule (seeded seed edition) matrix m n weights output numbers indices r output' numbers' indices'
     → (r ≡ refusal number) × (output' ≡ output)
 holds (draws state after output value) =
     let rng = seeded state 1 in (afterOf rng .state ≡ after) × (outputOf rng ≡ output) × (uniformIn rng ≡ value)

@@ -18,47 +18,48 @@ use Rattle.margins.specs.Margins.{changeTo, marginAt}
 use Rattle.margins.specs.Blocks.{plusAt, Lent}
 
 -- the rows of a block in a column lie within the matrix
-pub inside : {u : List Float} {m n : ℕ} (j from l : ℕ) → Lent u m n → j < m → from + l ≤ n → j * n + from + l ≤ length u
-inside {u} {m} {n} j from l e h k = omega (arith, room j m n h, e .whole)
+pub inside : {matrix : List Float} {m n : ℕ} (j from l : ℕ) → Lent matrix m n → j < m → from + l ≤ n → j * n + from + l ≤ length matrix
+inside {matrix} {m} {n} j from l e h k = omega (arith, room j m n h, e .whole)
 
 -- and the matrix is small
-pub small : {u : List Float} {m n : ℕ} → Lent u m n → length u ≤ 1_048_576
+pub small : {matrix : List Float} {m n : ℕ} → Lent matrix m n → length matrix ≤ 1_048_576
 small e = omega (arith, mul-le-mul (e .few) (e .short), e .whole)
 
-module _ (u : List Float) (n : ℕ) where
+module _ (matrix : List Float) (n : ℕ) where
   -- a row of the column j within the block
-  row-at : (j from l i : ℕ) → i < l → at (part (j * n + from) l u) i ≡ columnsOf u n j (from + i)
+  row-at : (j from l i : ℕ) → i < l → at (part (j * n + from) l matrix) i ≡ columnsOf matrix n j (from + i)
   row-at j from l i h =
       let e : j * n + from + i ≡ j * n + (from + i) = omega arith in
-      getD-part (j * n + from) l i u nan h ∙ ap (at u) e
+      getD-part (j * n + from) l i matrix nan h ∙ ap (at matrix) e
 
   -- a block of margins takes the column j
   pub margins-more : (w : List Float) (from j l : ℕ) (block : List Float)
-      → block ≡ tabulate (λ i. marginAt (columnsOf u n) j w (from + i)) l
-      → tabulate (plusAt (part (j * n + from) (length block) u) (at w j) block) (length block) ≡ tabulate (λ i. marginAt (columnsOf u n) (j + 1) w (from + i)) l
+      → block ≡ tabulate (λ i. marginAt (columnsOf matrix n) j w (from + i)) l
+      → tabulate (plusAt (part (j * n + from) (length block) matrix) (at w j) block) (length block)
+      ≡ tabulate (λ i. marginAt (columnsOf matrix n) (j + 1) w (from + i)) l
   margins-more w from j l block e =
-      rw (e, length-tab (λ i. marginAt (columnsOf u n) j w (from + i)) l)
+      rw (e, length-tab (λ i. marginAt (columnsOf matrix n) j w (from + i)) l)
       (tab-cong _ _ l (λ i h.
       rw (
-        getD-tab (λ i. marginAt (columnsOf u n) j w (from + i)) l i nan h,
+        getD-tab (λ i. marginAt (columnsOf matrix n) j w (from + i)) l i nan h,
         row-at j from l i h,
-        sum-more binary64 plusZero (λ q. mul binary64 (columnsOf u n q (from + i)) (at w q)) j,
+        sum-more binary64 plusZero (λ q. mul binary64 (columnsOf matrix n q (from + i)) (at w q)) j,
       )))
 
   module _ (before after : List Float) (from j l : ℕ) (block : List Float)
-      (so-far : block ≡ tabulate (λ i. changeTo (columnsOf u n) before after (from + i) j) l) where
+      (so-far : block ≡ tabulate (λ i. changeTo (columnsOf matrix n) before after (from + i) j) l) where
     -- a block of changes takes the column j where its weight has changed
     pub change-more : ne (sub binary64 (at before j) (at after j)) plusZero ≡ true
-        → tabulate (plusAt (part (j * n + from) (length block) u) (sub binary64 (at before j) (at after j)) block) (length block)
-        ≡ tabulate (λ i. changeTo (columnsOf u n) before after (from + i) (j + 1)) l
+        → tabulate (plusAt (part (j * n + from) (length block) matrix) (sub binary64 (at before j) (at after j)) block) (length block)
+        ≡ tabulate (λ i. changeTo (columnsOf matrix n) before after (from + i) (j + 1)) l
     unfolding changeTo
     change-more t =
-        rw (so-far, length-tab (λ i. changeTo (columnsOf u n) before after (from + i) j) l)
+        rw (so-far, length-tab (λ i. changeTo (columnsOf matrix n) before after (from + i) j) l)
         (tab-cong _ _ l (λ i h.
-        rw (getD-tab (λ i. changeTo (columnsOf u n) before after (from + i) j) l i nan h, row-at j from l i h, add-one j, t)))
+        rw (getD-tab (λ i. changeTo (columnsOf matrix n) before after (from + i) j) l i nan h, row-at j from l i h, add-one j, t)))
 
     -- and stays where the weight is as it was
     pub change-same : ne (sub binary64 (at before j) (at after j)) plusZero ≡ false
-        → block ≡ tabulate (λ i. changeTo (columnsOf u n) before after (from + i) (j + 1)) l
+        → block ≡ tabulate (λ i. changeTo (columnsOf matrix n) before after (from + i) (j + 1)) l
     unfolding changeTo
     change-same t = so-far ∙ tab-cong _ _ l (λ i h. rw (add-one j, t))

@@ -13,10 +13,10 @@ unfolding maxAbsTo largerOf ofBits isNan lt
 zeros zero = refl
 zeros (suc k) = rw (zeros k)
 
-pub no-rows : (u : ℕ → ℕ → Float) (m : ℕ) (before after : List Float) → maxChange u m 0 before after ≡ plusZero
+pub no-rows : (matrix : ℕ → ℕ → Float) (m : ℕ) (before after : List Float) → maxChange matrix m 0 before after ≡ plusZero
 unfolding maxChange maxAbsTo
-no-rows u m before after = refl
+no-rows matrix m before after = refl
 
-pub no-columns : (u : ℕ → ℕ → Float) (n : ℕ) (before after : List Float) → maxChange u 0 n before after ≡ plusZero
+pub no-columns : (matrix : ℕ → ℕ → Float) (n : ℕ) (before after : List Float) → maxChange matrix 0 n before after ≡ plusZero
 unfolding maxChange changeTo
-no-columns u n before after = zeros n
+no-columns matrix n before after = zeros n

@@ -21,7 +21,7 @@ fell before after = lt plusZero before && lt after plusZero
 
 -- how many of the n rows fell
 abbrev pub fallenCount : (ℕ → ℕ → Float) → ℕ → ℕ → List Float → List Float → ℕ
-fallenCount u m n before after = count (λ i. fell (marginAt u m before i) (marginAt u m after i)) n
+fallenCount matrix m n before after = count (λ i. fell (marginAt matrix m before i) (marginAt matrix m after i)) n
 
 -- what passes one test passes the other, so that the other's count is no less
 pub count-more : (f g : ℕ → Bool) (k : ℕ) → ((i : ℕ) → i < k → f i ≡ true → g i ≡ true) → count f k ≤ count g k
@@ -83,10 +83,10 @@ falls-turn threshold before after z e =
     go false q r e k = let z : _≡_ {A = ℕ} 0 1 = cc in absurd (omega arith)
 
 -- the count is never below document 01's, where every threshold is 0
-pub never-below : (u : ℕ → ℕ → Float) (m n : ℕ) (before after thresholds : List Float)
+pub never-below : (matrix : ℕ → ℕ → Float) (m n : ℕ) (before after thresholds : List Float)
     → ((i : ℕ) → i < n → Alike (at thresholds i) plusZero)
-    → fallenCount u m n before after ≤ turnedCount u m n before after thresholds
+    → fallenCount matrix m n before after ≤ turnedCount matrix m n before after thresholds
 unfolding turnedCount
-never-below u m n before after thresholds z =
-    count-more (λ i. fell (marginAt u m before i) (marginAt u m after i)) (turnsAt u m before after thresholds) n
-    (λ i l. falls-turn (at thresholds i) (marginAt u m before i) (marginAt u m after i) (z i l))
+never-below matrix m n before after thresholds z =
+    count-more (λ i. fell (marginAt matrix m before i) (marginAt matrix m after i)) (turnsAt matrix m before after thresholds) n
+    (λ i l. falls-turn (at thresholds i) (marginAt matrix m before i) (marginAt matrix m after i) (z i l))

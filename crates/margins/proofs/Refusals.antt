@@ -28,64 +28,64 @@ passed false true false s e = absurd (omega arith)
 passed false true true false e = absurd (omega arith)
 passed false true true true e = (refl, refl, refl, refl)
 
-module _ (u : List Float) (m n : ℕ) (before after : List Float) where
-  pub fault-large : tooLarge m n ≡ true → 3 ≡ marginFault u m n before after
+module _ (matrix : List Float) (m n : ℕ) (before after : List Float) where
+  pub fault-large : tooLarge m n ≡ true → 3 ≡ marginFault matrix m n before after
   unfolding marginFault
   fault-large e = rw e
 
-  pub fault-matrix : tooLarge m n ≡ false → (length u ≡ m * n → ⊥) → 4 ≡ marginFault u m n before after
+  pub fault-matrix : tooLarge m n ≡ false → (length matrix ≡ m * n → ⊥) → 4 ≡ marginFault matrix m n before after
   unfolding marginFault
-  fault-matrix e w = rw (e, ne-eqb (length u) (m * n) w)
+  fault-matrix e w = rw (e, ne-eqb (length matrix) (m * n) w)
 
-  pub fault-before : tooLarge m n ≡ false → length u ≡ m * n → (length before ≡ m → ⊥) → 4 ≡ marginFault u m n before after
+  pub fault-before : tooLarge m n ≡ false → length matrix ≡ m * n → (length before ≡ m → ⊥) → 4 ≡ marginFault matrix m n before after
   unfolding marginFault
-  fault-before e w b = rw (e, eq-eqb (length u) (m * n) w, ne-eqb (length before) m b)
+  fault-before e w b = rw (e, eq-eqb (length matrix) (m * n) w, ne-eqb (length before) m b)
 
-  pub fault-after : tooLarge m n ≡ false → length u ≡ m * n → length before ≡ m → (length after ≡ m → ⊥) → 4 ≡ marginFault u m n before after
+  pub fault-after : tooLarge m n ≡ false → length matrix ≡ m * n → length before ≡ m → (length after ≡ m → ⊥) → 4 ≡ marginFault matrix m n before after
   unfolding marginFault
-  fault-after e w b a = rw (e, eq-eqb (length u) (m * n) w, eq-eqb (length before) m b, ne-eqb (length after) m a)
+  fault-after e w b a = rw (e, eq-eqb (length matrix) (m * n) w, eq-eqb (length before) m b, ne-eqb (length after) m a)
 
-  pub fault-none : tooLarge m n ≡ false → length u ≡ m * n → length before ≡ m → length after ≡ m → 0 ≡ marginFault u m n before after
+  pub fault-none : tooLarge m n ≡ false → length matrix ≡ m * n → length before ≡ m → length after ≡ m → 0 ≡ marginFault matrix m n before after
   unfolding marginFault
-  fault-none e w b a = rw (e, eq-eqb (length u) (m * n) w, eq-eqb (length before) m b, eq-eqb (length after) m a)
+  fault-none e w b a = rw (e, eq-eqb (length matrix) (m * n) w, eq-eqb (length before) m b, eq-eqb (length after) m a)
 
   -- what follows from the number, and the answers on the two ways out
-  module _ (number : ℕ) (is : number ≡ marginFault u m n before after) where
+  module _ (number : ℕ) (is : number ≡ marginFault matrix m n before after) where
     -- what is not refused is of the sizes that are taken
-    pub taken-sizes : number ≡ 0 → Compared u n before after × (length before ≡ m)
+    pub taken-sizes : number ≡ 0 → Compared matrix n before after × (length before ≡ m)
     unfolding marginFault
     taken-sizes h =
-        let p = passed (tooLarge m n) (eqb (length u) (m * n)) (eqb (length before) m) (eqb (length after) m) (sym is ∙ h) in
+        let p = passed (tooLarge m n) (eqb (length matrix) (m * n)) (eqb (length before) m) (eqb (length after) m) (sym is ∙ h) in
         let s = small m n (p .0) in
-        let w = eqb-true (length u) (m * n) (p .1) in
+        let w = eqb-true (length matrix) (m * n) (p .1) in
         let b = eqb-true (length before) m (p .2) in
         let a = eqb-true (length after) m (p .3) in
         ((rw b (record { whole = w; few = s .columns; short = s .rows }), omega arith), b)
 
-    pub change-refused : (number ≡ 0 → ⊥) → _≡_ {A = Change} (record { number = number; change = plusZero }) (changeAnswer u m n before after)
+    pub change-refused : (number ≡ 0 → ⊥) → _≡_ {A = Change} (record { number = number; change = plusZero }) (changeAnswer matrix m n before after)
     unfolding changeAnswer
     change-refused h = rw (← is, ne-eqb number 0 h)
 
-    pub change-taken : number ≡ 0 → (r : Float) → r ≡ maxChange (columnsOf u n) (length before) n before after → length before ≡ m
-        → _≡_ {A = Change} (record { number = number; change = r }) (changeAnswer u m n before after)
+    pub change-taken : number ≡ 0 → (r : Float) → r ≡ maxChange (columnsOf matrix n) (length before) n before after → length before ≡ m
+        → _≡_ {A = Change} (record { number = number; change = r }) (changeAnswer matrix m n before after)
     unfolding changeAnswer
     change-taken h r e b = rw (← is, eq-eqb number 0 h, ← b, e)
 
     -- turned words: refused by the sizes, by the thresholds, or counted
     module _ (thresholds : List Float) where
       pub turned-refused : (number ≡ 0 → ⊥)
-          → _≡_ {A = Turned} (record { number = number; count = 0 }) (turnedAnswer u m n before after thresholds)
+          → _≡_ {A = Turned} (record { number = number; count = 0 }) (turnedAnswer matrix m n before after thresholds)
       unfolding turnedAnswer
       turned-refused h = rw (← is, ne-eqb number 0 h, ne-eqb number 0 h)
 
       pub turned-refused-last : number ≡ 0 → (last : ℕ) → last ≡ thresholdFault n thresholds → (last ≡ 0 → ⊥)
-          → _≡_ {A = Turned} (record { number = last; count = 0 }) (turnedAnswer u m n before after thresholds)
+          → _≡_ {A = Turned} (record { number = last; count = 0 }) (turnedAnswer matrix m n before after thresholds)
       unfolding turnedAnswer
       turned-refused-last h last e g = rw (← is, eq-eqb number 0 h, ← e, ne-eqb last 0 g)
 
       pub turned-taken : number ≡ 0 → thresholdFault n thresholds ≡ 0 → (r : ℕ)
-          → r ≡ turnedCount (columnsOf u n) (length before) n before after thresholds → length before ≡ m
-          → _≡_ {A = Turned} (record { number = 0; count = r }) (turnedAnswer u m n before after thresholds)
+          → r ≡ turnedCount (columnsOf matrix n) (length before) n before after thresholds → length before ≡ m
+          → _≡_ {A = Turned} (record { number = 0; count = r }) (turnedAnswer matrix m n before after thresholds)
       unfolding turnedAnswer
       turned-taken h e r k b = rw (← is, eq-eqb number 0 h, e, ← b, k)
 

@@ -7,10 +7,10 @@ use Rattle.margins.specs.Answers.{changeAnswer, turnedAnswer}
 use Rattle.margins.specs.declared.Change.{Change}
 use Rattle.margins.specs.declared.Turned.{Turned}
 
-module _ (u : List Float) (m n : ℕ) (before after : List Float) where
-  pub change-unique : (r s : Change) → r ≡ changeAnswer u m n before after → s ≡ changeAnswer u m n before after → r ≡ s
+module _ (matrix : List Float) (m n : ℕ) (before after : List Float) where
+  pub change-unique : (r s : Change) → r ≡ changeAnswer matrix m n before after → s ≡ changeAnswer matrix m n before after → r ≡ s
   change-unique r s p q = p ∙ sym q
 
   pub turned-unique : (thresholds : List Float) (r s : Turned)
-      → r ≡ turnedAnswer u m n before after thresholds → s ≡ turnedAnswer u m n before after thresholds → r ≡ s
+      → r ≡ turnedAnswer matrix m n before after thresholds → s ≡ turnedAnswer matrix m n before after thresholds → r ≡ s
   turned-unique thresholds r s p q = p ∙ sym q

@@ -15,15 +15,15 @@ use Rattle.margins.specs.declared.Turned.{Turned}
 
 -- 3 too large, 4 another length than m and n say
 unfoldable pub marginFault : List Float → ℕ → ℕ → List Float → List Float → ℕ
-marginFault u m n before after =
+marginFault matrix m n before after =
     pick (tooLarge m n) 3
-    (pick (not (eqb (length u) (m * n)) || (not (eqb (length before) m) || not (eqb (length after) m))) 4 0)
+    (pick (not (eqb (length matrix) (m * n)) || (not (eqb (length before) m) || not (eqb (length after) m))) 4 0)
 
 -- the number, and the change where it is 0
 unfoldable pub changeAnswer : List Float → ℕ → ℕ → List Float → List Float → Change
-changeAnswer u m n before after =
-    let number : ℕ = marginFault u m n before after in
-    record { number = number; change = pick (eqb number 0) (maxChange (columnsOf u n) m n before after) plusZero }
+changeAnswer matrix m n before after =
+    let number : ℕ = marginFault matrix m n before after in
+    record { number = number; change = pick (eqb number 0) (maxChange (columnsOf matrix n) m n before after) plusZero }
 
 -- of the thresholds, one a row: 4 another length than n, 8 one that is not finite
 unfoldable pub thresholdFault : ℕ → List Float → ℕ
@@ -31,10 +31,10 @@ thresholdFault n thresholds = pick (not (eqb (length thresholds) n)) 4 (pick (al
 
 -- the first of both that is given
 abbrev pub turnedFault : List Float → ℕ → ℕ → List Float → List Float → List Float → ℕ
-turnedFault u m n before after thresholds = orElse (marginFault u m n before after) (thresholdFault n thresholds)
+turnedFault matrix m n before after thresholds = orElse (marginFault matrix m n before after) (thresholdFault n thresholds)
 
 -- the number, and the count where it is 0
 unfoldable pub turnedAnswer : List Float → ℕ → ℕ → List Float → List Float → List Float → Turned
-turnedAnswer u m n before after thresholds =
-    let number : ℕ = turnedFault u m n before after thresholds in
-    record { number = number; count = pick (eqb number 0) (turnedCount (columnsOf u n) m n before after thresholds) 0 }
+turnedAnswer matrix m n before after thresholds =
+    let number : ℕ = turnedFault matrix m n before after thresholds in
+    record { number = number; count = pick (eqb number 0) (turnedCount (columnsOf matrix n) m n before after thresholds) 0 }

@@ -23,11 +23,11 @@ abbrev pub turnedIn : List Float → List Float → List Float → ℕ
 turnedIn before after thresholds = count (λ i. turns (at thresholds i) (at before i) (at after i)) (length before)
 
 -- a matrix of m columns of n rows, of the sizes that are taken
-pub record Lent (u : List Float) (m n : ℕ) : Type 0 where
-  pub whole : length u ≡ m * n
+pub record Lent (matrix : List Float) (m n : ℕ) : Type 0 where
+  pub whole : length matrix ≡ m * n
   pub few : m ≤ 256
   pub short : n ≤ 4096
 
 -- two weight vectors for its columns
 abbrev pub Compared : List Float → ℕ → List Float → List Float → Type 0
-Compared u n before after = Lent u (length before) n × (length after ≡ length before)
+Compared matrix n before after = Lent matrix (length before) n × (length after ≡ length before)

@@ -10,21 +10,21 @@ use Rattle.seq.specs.Sums.{plusZero, sumTo, at}
 use Rattle.seq.specs.Keep.{count}
 use Rattle.ieee.specs.Magnitude.{maxAbsTo}
 
--- the running sum of u (before - after) at row i over the columns below k, from +0.0; a difference that is 0 is skipped
+-- the running sum of matrix (before - after) at row i over the columns below k, from +0.0; a difference that is 0 is skipped
 unfoldable pub changeTo : (ℕ → ℕ → Float) → List Float → List Float → ℕ → ℕ → Float
-changeTo u before after i zero = plusZero
-changeTo u before after i (suc k) =
-    let r : Float = changeTo u before after i k in
+changeTo matrix before after i zero = plusZero
+changeTo matrix before after i (suc k) =
+    let r : Float = changeTo matrix before after i k in
     let d : Float = sub binary64 (at before k) (at after k) in
-    pick (ne d plusZero) (add binary64 r (mul binary64 (u k i) d)) r
+    pick (ne d plusZero) (add binary64 r (mul binary64 (matrix k i) d)) r
 
 -- the largest magnitude of a change, of m columns and n rows
 unfoldable pub maxChange : (ℕ → ℕ → Float) → ℕ → ℕ → List Float → List Float → Float
-maxChange u m n before after = maxAbsTo (λ i. changeTo u before after i m) n
+maxChange matrix m n before after = maxAbsTo (λ i. changeTo matrix before after i m) n
 
--- the margin at row i: the running sum of u w over m columns, from +0.0
+-- the margin at row i: the running sum of matrix w over m columns, from +0.0
 abbrev pub marginAt : (ℕ → ℕ → Float) → ℕ → List Float → ℕ → Float
-marginAt u m w i = sumTo plusZero (λ j. mul binary64 (u j i) (at w j)) m
+marginAt matrix m w i = sumTo plusZero (λ j. mul binary64 (matrix j i) (at w j)) m
 
 -- A margin was above the threshold and is not, or is and was not. A NaN is above nothing.
 abbrev pub turns : Float → Float → Float → Bool
@@ -32,8 +32,8 @@ turns threshold before after = (lt threshold before && not (lt threshold after))
 
 -- row i turns, at its own threshold
 abbrev pub turnsAt : (ℕ → ℕ → Float) → ℕ → List Float → List Float → List Float → ℕ → Bool
-turnsAt u m before after thresholds i = turns (at thresholds i) (marginAt u m before i) (marginAt u m after i)
+turnsAt matrix m before after thresholds i = turns (at thresholds i) (marginAt matrix m before i) (marginAt matrix m after i)
 
 -- how many of the n rows turn
 unfoldable pub turnedCount : (ℕ → ℕ → Float) → ℕ → ℕ → List Float → List Float → List Float → ℕ
-turnedCount u m n before after thresholds = count (turnsAt u m before after thresholds) n
+turnedCount matrix m n before after thresholds = count (turnsAt matrix m before after thresholds) n

@@ -37,7 +37,7 @@ more {f} h p = record { ends = p .ends; most = le-trans (p .most) (mul-le-mul-ri
 size-most : (s t : Bool) (x y : ℕ) → sumSize s x t y ≤ x + y
 size-most s t x y = go (Bool·beq s t) (ltb x y)
   where
-    go : (u v : Bool) → cond u (x + y) (cond v (y - x) (x - y)) ≤ x + y
+    go : (matrix v : Bool) → cond matrix (x + y) (cond v (y - x) (x - y)) ≤ x + y
     go true v = omega arith
     go false true = omega arith
     go false false = omega arith
@@ -121,14 +121,14 @@ turn-up {k} {r} {t} h p q true =
     (add-up p q (few-digits (k + k + 2) (omega arith)) (in-room (k + k + 2) (omega arith)))
 turn-up h p q false = more (omega arith) p
 
-pub change-up : (u : ℕ → ℕ → Float) (before after : List Float) (i k : ℕ) → k ≤ 256
-    → ((j : ℕ) → j < k → UpTo binary64 1 (u j i)) → ((j : ℕ) → j < k → UpTo binary64 1 (at before j)) → ((j : ℕ) → j < k → UpTo binary64 1 (at after j))
-    → UpTo binary64 (k + k) (changeTo u before after i k)
+pub change-up : (matrix : ℕ → ℕ → Float) (before after : List Float) (i k : ℕ) → k ≤ 256
+    → ((j : ℕ) → j < k → UpTo binary64 1 (matrix j i)) → ((j : ℕ) → j < k → UpTo binary64 1 (at before j)) → ((j : ℕ) → j < k → UpTo binary64 1 (at after j))
+    → UpTo binary64 (k + k) (changeTo matrix before after i k)
 unfolding changeTo
-change-up u before after i zero h e p q = nothing-up
-change-up u before after i (suc k) h e p q =
+change-up matrix before after i zero h e p q = nothing-up
+change-up matrix before after i (suc k) h e p q =
     let d : Float = sub binary64 (at before k) (at after k) in
     turn-up h
-    (change-up u before after i k (omega arith) (λ j l. e j (omega arith)) (λ j l. p j (omega arith)) (λ j l. q j (omega arith)))
+    (change-up matrix before after i k (omega arith) (λ j l. e j (omega arith)) (λ j l. p j (omega arith)) (λ j l. q j (omega arith)))
     (mul-up (e k (omega arith)) (sub-up (p k (omega arith)) (q k (omega arith)) (few-digits 2 (omega arith)) (in-room 2 (omega arith))))
     (ne d plusZero)

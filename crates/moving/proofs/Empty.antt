@@ -88,15 +88,15 @@ module _ (n : ℕ) where
       in-order)
 
 -- ---- the calls
-module _ (u : List Float) (n : ℕ) (before after : List Float) where
-  no-changes : lentChanges u 0 n before after ≡ repeated plusZero n
+module _ (matrix : List Float) (n : ℕ) (before after : List Float) where
+  no-changes : lentChanges matrix 0 n before after ≡ repeated plusZero n
   unfolding changesOf changeTo
   no-changes = refl
 
   pub no-columns : {rows : List ℕ} {changes : List Float} {r : ℕ} {rows' : List ℕ} {changes' : List Float}
-      → Listed u 0 n before after rows changes r rows' changes' → r ≡ 0 → rows' ≡ upTo n
-  no-columns p z = listed-index u 0 n before after p z ∙ ap movedRows no-changes ∙ nothing-moved n
+      → Listed matrix 0 n before after rows changes r rows' changes' → r ≡ 0 → rows' ≡ upTo n
+  no-columns p z = listed-index matrix 0 n before after p z ∙ ap movedRows no-changes ∙ nothing-moved n
 
-pub no-rows : (u : List Float) (m : ℕ) (before after : List Float) {rows : List ℕ} {changes : List Float} {r : ℕ} {rows' : List ℕ} {changes' : List Float}
-    → Listed u m 0 before after rows changes r rows' changes' → r ≡ 0 → length rows' ≡ 0
-no-rows u m before after p z = as-many-rows u m 0 before after p z
+pub no-rows : (matrix : List Float) (m : ℕ) (before after : List Float) {rows : List ℕ} {changes : List Float} {r : ℕ} {rows' : List ℕ} {changes' : List Float}
+    → Listed matrix m 0 before after rows changes r rows' changes' → r ≡ 0 → length rows' ≡ 0
+no-rows matrix m before after p z = as-many-rows matrix m 0 before after p z

@@ -16,29 +16,29 @@ use Rattle.moving.specs.Answers.{movedFault, lentChanges, Listed}
 use Rattle.moving.proofs.Refusals.{passed}
 
 -- the changes from row 0 on
-pub filled : (u : ℕ → ℕ → Float) (m n : ℕ) (before after v : List Float) (k : ℕ) → v ≡ tabulate
-    (λ i. changeTo u before after (0 + i) m) k → k ≡ n → v ≡ changesOf u m n before after
+pub filled : (matrix : ℕ → ℕ → Float) (m n : ℕ) (before after v : List Float) (k : ℕ) → v ≡ tabulate
+    (λ i. changeTo matrix before after (0 + i) m) k → k ≡ n → v ≡ changesOf matrix m n before after
 unfolding changesOf
-filled u m n before after v k e d = e ∙ (λ t. tabulate (λ i. changeTo u before after (zero-add i t) m) (d t))
+filled matrix m n before after v k e d = e ∙ (λ t. tabulate (λ i. changeTo matrix before after (zero-add i t) m) (d t))
 
 -- the front of an array that is lent
 pub front-long : {A : Type 0} (m n : ℕ) (v : A) → n ≤ m → length (take n (replicate m v)) ≡ n
 front-long m n v h = length-take-le n (replicate m v) (omega (arith, length-replicate m v))
 
-module _ (u : List Float) (m n : ℕ) (before after : List Float) (rows : List ℕ) (changes : List Float) (r : ℕ)
-    (e : r ≡ movedFault u m n before after (length rows) (length changes)) where
-  pub refused : (r ≡ 0 → ⊥) → Listed u m n before after rows changes r rows changes
+module _ (matrix : List Float) (m n : ℕ) (before after : List Float) (rows : List ℕ) (changes : List Float) (r : ℕ)
+    (e : r ≡ movedFault matrix m n before after (length rows) (length changes)) where
+  pub refused : (r ≡ 0 → ⊥) → Listed matrix m n before after rows changes r rows changes
   refused h = record { number = e; index = rw (ne-eqb r 0 h); list = rw (ne-eqb r 0 h) }
 
   module _ (z : r ≡ 0) where
-    pub accepted-sizes : Taken u (length before) n before after × (length rows ≡ n) × (length changes ≡ n)
+    pub accepted-sizes : Taken matrix (length before) n before after × (length rows ≡ n) × (length changes ≡ n)
     accepted-sizes =
-        let p = passed u m n before after (length rows) (length changes) (sym e ∙ z) in
-        (subst (λ k. Taken u k n before after) (sym (p .taken .first)) (p .taken), p .index, p .list)
+        let p = passed matrix m n before after (length rows) (length changes) (sym e ∙ z) in
+        (subst (λ k. Taken matrix k n before after) (sym (p .taken .first)) (p .taken), p .index, p .list)
 
-    pub accepted : (rows' : List ℕ) (changes' : List Float) → Moved (lentChanges u (length before) n before after) rows' changes'
-        → Listed u m n before after rows changes r rows' changes'
+    pub accepted : (rows' : List ℕ) (changes' : List Float) → Moved (lentChanges matrix (length before) n before after) rows' changes'
+        → Listed matrix m n before after rows changes r rows' changes'
     accepted rows' changes' p =
-        let first = passed u m n before after (length rows) (length changes) (sym e ∙ z) .taken .first in
-        let q = subst (λ k. Moved (lentChanges u k n before after) rows' changes') first p in
+        let first = passed matrix m n before after (length rows) (length changes) (sym e ∙ z) .taken .first in
+        let q = subst (λ k. Moved (lentChanges matrix k n before after) rows' changes') first p in
         record { number = e; index = q .index ∙ rw (eq-eqb r 0 z); list = q .list ∙ rw (eq-eqb r 0 z) }

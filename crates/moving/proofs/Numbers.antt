@@ -21,40 +21,41 @@ use Rattle.moving.specs.Changes.{changesOf, Taken}
 use Rattle.moving.specs.Answers.{lentChanges}
 use Rattle.moving.proofs.Bounds.{UpTo, one-up, change-up}
 
-module _ (u : ℕ → ℕ → Float) (m n : ℕ) (before after : List Float) where
-  pub length-changes : length (changesOf u m n before after) ≡ n
+module _ (matrix : ℕ → ℕ → Float) (m n : ℕ) (before after : List Float) where
+  pub length-changes : length (changesOf matrix m n before after) ≡ n
   unfolding changesOf
-  length-changes = length-tab (λ i. changeTo u before after i m) n
+  length-changes = length-tab (λ i. changeTo matrix before after i m) n
 
-  pub changes-at : (i : ℕ) → i < n → at (changesOf u m n before after) i ≡ changeTo u before after i m
+  pub changes-at : (i : ℕ) → i < n → at (changesOf matrix m n before after) i ≡ changeTo matrix before after i m
   unfolding changesOf
-  changes-at i h = getD-tab (λ i. changeTo u before after i m) n i nan h
+  changes-at i h = getD-tab (λ i. changeTo matrix before after i m) n i nan h
 
 -- the place of row i of column j
 in-matrix : (m n j i : ℕ) → j < m → i < n → j * n + i < m * n
 in-matrix m n j i h l = let e : suc j * n ≤ m * n = mul-le-mul-right n h in omega arith
 
-module _ (u : List Float) (m n : ℕ) (before after : List Float) (t : Taken u m n before after)
-    (fu : (i : ℕ) → T (fits binary64 (at u i))) (fb : (i : ℕ) → T (fits binary64 (at before i))) (fa : (i : ℕ) → T (fits binary64 (at after i))) where
-  change-bounded : (i : ℕ) → i < n → UpTo binary64 (m + m) (changeTo (columnsOf u n) before after i m)
+module _ (matrix : List Float) (m n : ℕ) (before after : List Float) (t : Taken matrix m n before after)
+    (fu : (i : ℕ) → T (fits binary64 (at matrix i))) (fb : (i : ℕ) → T (fits binary64 (at before i))) (fa : (i : ℕ) → T (fits binary64 (at after i))) where
+  change-bounded : (i : ℕ) → i < n → UpTo binary64 (m + m) (changeTo (columnsOf matrix n) before after i m)
   change-bounded i h =
-      change-up (columnsOf u n) before after i m (t .lent .few)
-      (λ j l. one-up (at u (j * n + i)) (fu (j * n + i)) (bounded-at one u (t .entries) (j * n + i) (omega (arith, in-matrix m n j i l h, t .lent .whole))))
+      change-up (columnsOf matrix n) before after i m (t .lent .few)
+      (λ j l. one-up (at matrix (j * n + i)) (fu (j * n + i))
+      (bounded-at one matrix (t .entries) (j * n + i) (omega (arith, in-matrix m n j i l h, t .lent .whole))))
       (λ j l. one-up (at before j) (fb j) (bounded-at one before (t .old) j (omega (arith, t .first))))
       (λ j l. one-up (at after j) (fa j) (bounded-at one after (t .new) j (omega (arith, t .second))))
 
-  at-bounded : (i : ℕ) → i < n → UpTo binary64 (m + m) (at (lentChanges u m n before after) i)
-  at-bounded i h = subst (UpTo binary64 (m + m)) (sym (changes-at (columnsOf u n) m n before after i h)) (change-bounded i h)
+  at-bounded : (i : ℕ) → i < n → UpTo binary64 (m + m) (at (lentChanges matrix m n before after) i)
+  at-bounded i h = subst (UpTo binary64 (m + m)) (sym (changes-at (columnsOf matrix n) m n before after i h)) (change-bounded i h)
 
-  pub changes-numbers : Numbers (lentChanges u m n before after)
-  changes-numbers = record { num = λ i h. finite-number (at-bounded i (omega (arith, length-changes (columnsOf u n) m n before after)) .ends) .num }
+  pub changes-numbers : Numbers (lentChanges matrix m n before after)
+  changes-numbers = record { num = λ i h. finite-number (at-bounded i (omega (arith, length-changes (columnsOf matrix n) m n before after)) .ends) .num }
 
-  pub changes-fit : (i : ℕ) → T (fits binary64 (at (lentChanges u m n before after) i))
+  pub changes-fit : (i : ℕ) → T (fits binary64 (at (lentChanges matrix m n before after) i))
   changes-fit i = go (decLt i n)
     where
-      go : Dec (i < n) → T (fits binary64 (at (lentChanges u m n before after) i))
+      go : Dec (i < n) → T (fits binary64 (at (lentChanges matrix m n before after) i))
       go (yes l) = at-bounded i l .ends .held
       go (no l) =
           subst (λ x. T (fits binary64 x))
-          (sym (List·getD-eq-default (lentChanges u m n before after) nan {n = i} (omega (arith, length-changes (columnsOf u n) m n before after))))
+          (sym (List·getD-eq-default (lentChanges matrix m n before after) nan {n = i} (omega (arith, length-changes (columnsOf matrix n) m n before after))))
           (nan-fits binary64)

@@ -26,63 +26,63 @@ module _ (m n matrix before after rows changes : ℕ) where
     unfolding lengthFault
     fault-matrix h = rw (e, ne-eqb matrix (m * n) h)
 
-    module _ (u : matrix ≡ m * n) where
+    module _ (whole : matrix ≡ m * n) where
       pub fault-before : (before ≡ m → ⊥) → 4 ≡ lengthFault m n matrix before after rows changes
       unfolding lengthFault
-      fault-before h = rw (e, eq-eqb matrix (m * n) u, ne-eqb before m h)
+      fault-before h = rw (e, eq-eqb matrix (m * n) whole, ne-eqb before m h)
 
       module _ (b : before ≡ m) where
         pub fault-after : (after ≡ m → ⊥) → 4 ≡ lengthFault m n matrix before after rows changes
         unfolding lengthFault
-        fault-after h = rw (e, eq-eqb matrix (m * n) u, eq-eqb before m b, ne-eqb after m h)
+        fault-after h = rw (e, eq-eqb matrix (m * n) whole, eq-eqb before m b, ne-eqb after m h)
 
         module _ (a : after ≡ m) where
           pub fault-rows : (rows ≡ n → ⊥) → 4 ≡ lengthFault m n matrix before after rows changes
           unfolding lengthFault
-          fault-rows h = rw (e, eq-eqb matrix (m * n) u, eq-eqb before m b, eq-eqb after m a, ne-eqb rows n h)
+          fault-rows h = rw (e, eq-eqb matrix (m * n) whole, eq-eqb before m b, eq-eqb after m a, ne-eqb rows n h)
 
           module _ (r : rows ≡ n) where
             pub fault-changes : (changes ≡ n → ⊥) → 4 ≡ lengthFault m n matrix before after rows changes
             unfolding lengthFault
-            fault-changes h = rw (e, eq-eqb matrix (m * n) u, eq-eqb before m b, eq-eqb after m a, eq-eqb rows n r, ne-eqb changes n h)
+            fault-changes h = rw (e, eq-eqb matrix (m * n) whole, eq-eqb before m b, eq-eqb after m a, eq-eqb rows n r, ne-eqb changes n h)
 
             pub fault-none : changes ≡ n → 0 ≡ lengthFault m n matrix before after rows changes
             unfolding lengthFault
-            fault-none h = rw (e, eq-eqb matrix (m * n) u, eq-eqb before m b, eq-eqb after m a, eq-eqb rows n r, eq-eqb changes n h)
+            fault-none h = rw (e, eq-eqb matrix (m * n) whole, eq-eqb before m b, eq-eqb after m a, eq-eqb rows n r, eq-eqb changes n h)
 
 -- ---- the values
-module _ (u before after : List Float) where
-  pub fault-entry : bounded one u ≡ false → 7 ≡ rangeFault u before after
+module _ (matrix before after : List Float) where
+  pub fault-entry : bounded one matrix ≡ false → 7 ≡ rangeFault matrix before after
   unfolding rangeFault
   fault-entry e = rw e
 
-  pub fault-old : bounded one u ≡ true → bounded one before ≡ false → 8 ≡ rangeFault u before after
+  pub fault-old : bounded one matrix ≡ true → bounded one before ≡ false → 8 ≡ rangeFault matrix before after
   unfolding rangeFault
   fault-old e b = rw (e, b)
 
-  pub fault-new : bounded one u ≡ true → bounded one before ≡ true → bounded one after ≡ false → 8 ≡ rangeFault u before after
+  pub fault-new : bounded one matrix ≡ true → bounded one before ≡ true → bounded one after ≡ false → 8 ≡ rangeFault matrix before after
   unfolding rangeFault
   fault-new e b a = rw (e, b, a)
 
-  pub fault-value-none : bounded one u ≡ true → bounded one before ≡ true → bounded one after ≡ true → 0 ≡ rangeFault u before after
+  pub fault-value-none : bounded one matrix ≡ true → bounded one before ≡ true → bounded one after ≡ true → 0 ≡ rangeFault matrix before after
   unfolding rangeFault
   fault-value-none e b a = rw (e, b, a)
 
 -- ---- both
-module _ (u : List Float) (m n : ℕ) (before after : List Float) (rows changes : ℕ) where
-  pub first-fault : (r : ℕ) → r ≡ lengthFault m n (length u) (length before) (length after) rows changes → (r ≡ 0 → ⊥) → r ≡ movedFault
-      u m n before after rows changes
+module _ (matrix : List Float) (m n : ℕ) (before after : List Float) (rows changes : ℕ) where
+  pub first-fault : (r : ℕ) → r ≡ lengthFault m n (length matrix) (length before) (length after) rows changes → (r ≡ 0 → ⊥) → r ≡ movedFault
+      matrix m n before after rows changes
   unfolding movedFault
   first-fault r e h = rw (← e, ne-eqb r 0 h)
 
-  pub second-fault : (r s : ℕ) → r ≡ lengthFault m n (length u) (length before) (length after) rows changes → r ≡ 0 → s ≡ rangeFault
-      u before after → s ≡ movedFault u m n before after rows changes
+  pub second-fault : (r s : ℕ) → r ≡ lengthFault m n (length matrix) (length before) (length after) rows changes → r ≡ 0 → s ≡ rangeFault
+      matrix before after → s ≡ movedFault matrix m n before after rows changes
   unfolding movedFault
   second-fault r s e z h = rw (← e, eq-eqb r 0 z, h)
 
   -- what is not refused
   pub record Passed : Type 0 where
-    pub taken : Taken u m n before after
+    pub taken : Taken matrix m n before after
     pub index : rows ≡ n
     pub list : changes ≡ n
 
@@ -109,17 +109,17 @@ module _ (u : List Float) (m n : ℕ) (before after : List Float) (rows changes 
       go true e h = (eqb-true a 0 e, h)
       go false e h = absurd (false≢true (sym e ∙ eq-eqb a 0 h))
 
-  pub passed : movedFault u m n before after rows changes ≡ 0 → Passed
+  pub passed : movedFault matrix m n before after rows changes ≡ 0 → Passed
   unfolding movedFault lengthFault rangeFault
   passed h =
-      let p = parted (lengthFault m n (length u) (length before) (length after) rows changes) (rangeFault u before after) h in
-      let s = sizes (tooLarge m n) (eqb (length u) (m * n)) (eqb (length before) m) (eqb (length after) m) (eqb rows n) (eqb changes n) (p .0) in
-      let v = values (bounded one u) (bounded one before) (bounded one after) (p .1) in
+      let p = parted (lengthFault m n (length matrix) (length before) (length after) rows changes) (rangeFault matrix before after) h in
+      let s = sizes (tooLarge m n) (eqb (length matrix) (m * n)) (eqb (length before) m) (eqb (length after) m) (eqb rows n) (eqb changes n) (p .0) in
+      let v = values (bounded one matrix) (bounded one before) (bounded one after) (p .1) in
       let k = small m n (s .0) in
       record {
         taken =
             record {
-              lent = record { whole = eqb-true (length u) (m * n) (s .1); few = k .columns; short = k .rows };
+              lent = record { whole = eqb-true (length matrix) (m * n) (s .1); few = k .columns; short = k .rows };
               first = eqb-true (length before) m (s .2);
               second = eqb-true (length after) m (s .3);
               entries = v .0;

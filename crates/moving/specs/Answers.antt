@@ -21,21 +21,22 @@ lengthFault m n matrix before after rows changes =
 
 -- 7 an entry outside [-1, 1], 8 a weight that is not finite or above 1 in magnitude
 unfoldable pub rangeFault : List Float → List Float → List Float → ℕ
-rangeFault u before after = pick (bounded one u) (pick (bounded one before && bounded one after) 0 8) 7
+rangeFault matrix before after = pick (bounded one matrix) (pick (bounded one before && bounded one after) 0 8) 7
 
 -- the lowest of all
 unfoldable pub movedFault : List Float → ℕ → ℕ → List Float → List Float → ℕ → ℕ → ℕ
-movedFault u m n before after rows changes =
-    orElse (lengthFault m n (length u) (length before) (length after) rows changes) (rangeFault u before after)
+movedFault matrix m n before after rows changes =
+    orElse (lengthFault m n (length matrix) (length before) (length after) rows changes) (rangeFault matrix before after)
 
 -- the changes of the rows of a lent matrix
 abbrev pub lentChanges : List Float → ℕ → ℕ → List Float → List Float → List Float
-lentChanges u m n before after = changesOf (columnsOf u n) m n before after
+lentChanges matrix m n before after = changesOf (columnsOf matrix n) m n before after
 
 -- The number; and where it is 0 the rows by the magnitude of their changes, with the changes in that order. A refusal leaves both
 -- lists as they were.
-pub record Listed (u : List Float) (m n : ℕ) (before after : List Float) (rows : List ℕ)
+pub record Listed (matrix : List Float) (m n : ℕ) (before after : List Float) (rows : List ℕ)
     (changes : List Float) (r : ℕ) (rows' : List ℕ) (changes' : List Float) : Type 0 where
-  pub number : r ≡ movedFault u m n before after (length rows) (length changes)
-  pub index : rows' ≡ pick (eqb r 0) (movedRows (lentChanges u m n before after)) rows
-  pub list : changes' ≡ pick (eqb r 0) (changesAt (lentChanges u m n before after) (movedRows (lentChanges u m n before after))) changes
+  pub number : r ≡ movedFault matrix m n before after (length rows) (length changes)
+  pub index : rows' ≡ pick (eqb r 0) (movedRows (lentChanges matrix m n before after)) rows
+  pub list : changes' ≡ pick (eqb r 0) (changesAt (lentChanges matrix m n before after)
+      (movedRows (lentChanges matrix m n before after))) changes

@@ -13,13 +13,13 @@ use Rattle.margins.specs.Blocks.{Lent}
 
 -- the changes of n rows over m columns, in row order
 unfoldable pub changesOf : (ℕ → ℕ → Float) → ℕ → ℕ → List Float → List Float → List Float
-changesOf u m n before after = tabulate (λ i. changeTo u before after i m) n
+changesOf matrix m n before after = tabulate (λ i. changeTo matrix before after i m) n
 
 -- a matrix and weights that are not refused: of their sizes, and nothing above 1 in magnitude
-pub record Taken (u : List Float) (m n : ℕ) (before after : List Float) : Type 0 where
-  pub lent : Lent u m n
+pub record Taken (matrix : List Float) (m n : ℕ) (before after : List Float) : Type 0 where
+  pub lent : Lent matrix m n
   pub first : length before ≡ m
   pub second : length after ≡ m
-  pub entries : bounded one u ≡ true
+  pub entries : bounded one matrix ≡ true
   pub old : bounded one before ≡ true
   pub new : bounded one after ≡ true

@@ -22,12 +22,12 @@ ghost use Rattle.phasing.specs.Phasing.{between, PhasedAt};
 
 // A phase on the columns at some places. The last five slices are room: for what is chosen there, and for a direction.
 fn phase_on(
-    num: &mut [f64],
+    numbers: &mut [f64],
     blocked: &mut [u32],
     x: &mut [f64],
     free: &mut [u32],
     places: &[u32],
-    u: &[f64],
+    matrix: &[f64],
     n: usize,
     cols: &[u32],
     scale: &[f64],
@@ -38,24 +38,24 @@ fn phase_on(
     subfree: &mut [u32],
     g: &mut [f64],
 ) -> Phased
-    requires { ⌜ Chosen (now u) n (now cols) (now scale) (length (now blocked)) × Roomy (length (now cols)) (now num)
+    requires { ⌜ Chosen (now matrix) n (now cols) (now scale) (length (now blocked)) × Roomy (length (now cols)) (now numbers)
         (now blocked) (now x) (now free) 0 × Below (now places) (length (now cols)) × (length (now places) ≤ length (now cols)) ⌝ }
     requires { ⌜ (length (now subcols) ≡ length (now places)) × (length (now subscale) ≡ length (now places)) ×
         (length (now subx) ≡ length (now places))
         × (length (now subfree) ≡ length (now places)) × (length (now g) ≡ length (now places)) ⌝ }
-    ensures { λ r. ⌜ PhasedAt (entryOf (now (u .entry)) n (now (cols .entry)) (now (scale .entry)))
-        (length (now (blocked .entry))) (now (places .entry)) rng (now (num .entry)) (now (x .entry))
-        (now (free .entry)) r (now (num .exit)) (now (x .exit)) (now (free .exit)) ⌝ }
+    ensures { λ r. ⌜ PhasedAt (entryOf (now (matrix .entry)) n (now (cols .entry)) (now (scale .entry)))
+        (length (now (blocked .entry))) (now (places .entry)) rng (now (numbers .entry)) (now (x .entry))
+        (now (free .entry)) r (now (numbers .exit)) (now (x .exit)) (now (free .exit)) ⌝ }
 {
     choose_words(&mut subcols[..], cols, places);
     choose(&mut subscale[..], scale, places);
     choose(&mut subx[..], &x[..], places);
     let p = phase(
-        num,
+        numbers,
         blocked,
         &mut subx[..],
         &mut subfree[..],
-        u,
+        matrix,
         n,
         &subcols[..],
         &subscale[..],
@@ -69,11 +69,11 @@ fn phase_on(
 
 // A phase on the free columns; a phase that freezes nothing rounds them. The last six slices are room, for as much as there are columns.
 pub fn next_phase(
-    num: &mut [f64],
+    numbers: &mut [f64],
     blocked: &mut [u32],
     x: &mut [f64],
     free: &mut [u32],
-    u: &[f64],
+    matrix: &[f64],
     n: usize,
     cols: &[u32],
     scale: &[f64],
@@ -85,25 +85,25 @@ pub fn next_phase(
     subfree: &mut [u32],
     g: &mut [f64],
 ) -> Phased
-    requires { ⌜ Chosen (now u) n (now cols) (now scale) (length (now blocked)) × Roomy (length (now cols)) (now num)
+    requires { ⌜ Chosen (now matrix) n (now cols) (now scale) (length (now blocked)) × Roomy (length (now cols)) (now numbers)
         (now blocked) (now x) (now free) 0 ⌝ }
     requires { ⌜ (length (now cols) ≤ length (now places)) × (length (now cols) ≤ length (now subcols)) ×
         (length (now cols) ≤ length (now subscale))
         × (length (now cols) ≤ length (now subx)) × (length (now cols) ≤ length (now subfree)) × (length (now cols) ≤ length (now g)) ⌝ }
-    ensures { λ r. ⌜ ((d : ℕ) → between (length (now (blocked .entry))) (now (num .exit)) (now (x .exit)) (now (free .exit))
+    ensures { λ r. ⌜ ((d : ℕ) → between (length (now (blocked .entry))) (now (numbers .exit)) (now (x .exit)) (now (free .exit))
         (r .at .rng) (d + r .directions) ≡ phased plusZero
-        (entryOf (now (u .entry)) n (now (cols .entry)) (now (scale .entry))) (length (now (cols .entry)))
-        (length (now (blocked .entry))) (between (length (now (blocked .entry))) (now (num .entry)) (now (x .entry))
+        (entryOf (now (matrix .entry)) n (now (cols .entry)) (now (scale .entry))) (length (now (cols .entry)))
+        (length (now (blocked .entry))) (between (length (now (blocked .entry))) (now (numbers .entry)) (now (x .entry))
         (now (free .entry)) rng d)) ⌝ }
 {
     let l = free_places(&mut places[..], &free[..]);
     let p = phase_on(
-        num,
+        numbers,
         blocked,
         x,
         free,
         &places[..l],
-        u,
+        matrix,
         n,
         cols,
         scale,

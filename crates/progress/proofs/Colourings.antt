@@ -127,15 +127,15 @@ module _ (a : ℕ → ℕ → Float) (k n : ℕ) where
 
     came-back : (j : ℕ) → j < k → isSet (after .free) j ≡ true → Back j
     came-back j h f =
-        let u = was-free j f in
+        let matrix = was-free j f in
         let p = count (isSet (b .free)) j in
-        let g : p < l = subst (λ (m : ℕ). p < m) (sym (length-keep (isSet (b .free)) k)) (count-before (isSet (b .free)) k j h u) in
+        let g : p < l = subst (λ (m : ℕ). p < m) (sym (length-keep (isSet (b .free)) k)) (count-before (isSet (b .free)) k j h matrix) in
         record {
           place = p;
           under = g;
           set-there =
-              ap (λ (m : ℕ). eqb m 1) (sym (back-at 0 0 (isSet (b .free)) (w .free) (b .free) k j h (subst (λ (m : ℕ). j < m) (sym (s .marks)) h) u)) ∙ f;
-          x-is = back-at plusZero nan (isSet (b .free)) (w .x) (b .x) k j h (subst (λ (m : ℕ). j < m) (sym (s .wide)) h) u
+              ap (λ (m : ℕ). eqb m 1) (sym (back-at 0 0 (isSet (b .free)) (w .free) (b .free) k j h (subst (λ (m : ℕ). j < m) (sym (s .marks)) h) matrix)) ∙ f;
+          x-is = back-at plusZero nan (isSet (b .free)) (w .x) (b .x) k j h (subst (λ (m : ℕ). j < m) (sym (s .wide)) h) matrix
               ∙ getD-any (w .x) p plusZero nan (subst (λ (m : ℕ). p < m) (sym (w-stands .sound .wide)) g);
         }
 

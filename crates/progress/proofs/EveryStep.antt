@@ -66,16 +66,16 @@ sizable-entries a k n rng h b s = colouring-gets-somewhere a k n rng h b (clear-
 -- ---- lent entries within a bound
 
 -- doubles of at most 2 ^ e, by the test
-within-of : (u : List Float) (e : ℕ) (most : Float) → most ≡ fin false 1 (pos e) → T (fits binary64 (fin false 1 (pos e)))
+within-of : (matrix : List Float) (e : ℕ) (most : Float) → most ≡ fin false 1 (pos e) → T (fits binary64 (fin false 1 (pos e)))
     → mag binary64 (fin false 1 (pos e)) ≤ 2 ^ (1074 + e)
-    → ((i : ℕ) → T (fits binary64 (at u i))) → bounded most u ≡ true → (i : ℕ) → i < length u → Within binary64 (2 ^ (1074 + e)) (at u i)
-within-of u e most is held units doubles b i h =
-    let t : T (le (absOf (at u i)) (fin false 1 (pos e))) = subst (λ (m : Float). T (le (absOf (at u i)) m)) is (bounded-at most u b i h) in
-    let f : Finite binary64 (at u i) = record { held = doubles i; ends = finite-within (at u i) false 1 (pos e) t } in
+    → ((i : ℕ) → T (fits binary64 (at matrix i))) → bounded most matrix ≡ true → (i : ℕ) → i < length matrix → Within binary64 (2 ^ (1074 + e)) (at matrix i)
+within-of matrix e most is held units doubles b i h =
+    let t : T (le (absOf (at matrix i)) (fin false 1 (pos e))) = subst (λ (m : Float). T (le (absOf (at matrix i)) m)) is (bounded-at most matrix b i h) in
+    let f : Finite binary64 (at matrix i) = record { held = doubles i; ends = finite-within (at matrix i) false 1 (pos e) t } in
     let a = abs-size (finite-number f) in
     record {
       ends = f;
-      most = le-trans (le-of-eq (sym (abs-mag binary64 (at u i))))
+      most = le-trans (le-of-eq (sym (abs-mag binary64 (at matrix i))))
           (le-trans (le→mag (a .number) (record { held = held; num = tt }) (a .plus) refl t) units);
     }
 
@@ -93,11 +93,12 @@ place-inside j i m n h g = let a = mul-le-mul-right n h in omega arith
 -- ---- a pass
 
 -- a lent matrix of m columns of n rows, with no entry above 1
-pub lent-columns : (u : List Float) (m n : ℕ) → ((i : ℕ) → T (fits binary64 (at u i))) → length u ≡ m * n → bounded one u ≡ true → Columns m n (columnsOf u n)
+pub lent-columns : (matrix : List Float) (m n : ℕ) → ((i : ℕ) → T (fits binary64 (at matrix i))) → length matrix ≡ m * n → bounded one matrix ≡ true
+    → Columns m n (columnsOf matrix n)
 unfolding fits
-lent-columns u m n doubles long small = record {
+lent-columns matrix m n doubles long small = record {
   each = λ j i h g.
-      within-of u 0 one one-is tt (lit≤ tt) doubles small (j * n + i) (subst (λ (k : ℕ). j * n + i < k) (sym long) (place-inside j i m n h g));
+      within-of matrix 0 one one-is tt (lit≤ tt) doubles small (j * n + i) (subst (λ (k : ℕ). j * n + i < k) (sym long) (place-inside j i m n h g));
 }
 
 few-left : (a b c m : ℕ) → a ≤ b → b ≤ c → c ≤ m → a ≤ m
@@ -106,7 +107,7 @@ few-left a b c m h g k = omega arith
 sixty : (s r : ℕ) → s ≤ 90 → r ≡ s - max 1 (s / 3) → r ≤ 60
 sixty s r h e = omega arith
 
-module _ (u : ℕ → ℕ → Float) (n : ℕ) (h : Halved) (normal : Normal binary64 (length (h .w)) (at (h .w))) (columns : Columns (length (h .w)) n u) where
+module _ (matrix : ℕ → ℕ → Float) (n : ℕ) (h : Halved) (normal : Normal binary64 (length (h .w)) (at (h .w))) (columns : Columns (length (h .w)) n matrix) where
   abbrev w : List Float
   w = h .w
 
@@ -132,21 +133,21 @@ module _ (u : ℕ → ℕ → Float) (n : ℕ) (h : Halved) (normal : Normal bin
   rest-few : length rest ≤ length w
   rest-few = let e = length-rest w in let o = count-short (isOn w) (length w) in omega arith
 
-  first-bounded : Bounded (leftIn h h) (suc n) (scaledIn u n h h)
-  first-bounded = scaled-bounded u n w ω rest columns (λ p g. rest-on w p g .below) (heaviest-positive w doubles normal) (weighed-first w doubles normal)
+  first-bounded : Bounded (leftIn h h) (suc n) (scaledIn matrix n h h)
+  first-bounded = scaled-bounded matrix n w ω rest columns (λ p g. rest-on w p g .below) (heaviest-positive w doubles normal) (weighed-first w doubles normal)
 
-  second-bounded : let t = halvedFirst u n h in Bounded (leftIn h t) (suc n) (scaledIn u n h t)
+  second-bounded : let t = halvedFirst matrix n h in Bounded (leftIn h t) (suc n) (scaledIn matrix n h t)
   second-bounded =
-      let once = halvedFirst u n h .w in
-      let e : length once ≡ length w = length-once plusZero u n ω rest h in
-      scaled-bounded u n once ω rest (subst (λ (m : ℕ). Columns m n u) (sym e) columns)
+      let once = halvedFirst matrix n h .w in
+      let e : length once ≡ length w = length-once plusZero matrix n ω rest h in
+      scaled-bounded matrix n once ω rest (subst (λ (m : ℕ). Columns m n matrix) (sym e) columns)
       (λ p g. subst (λ (m : ℕ). getD rest p 0 < m) (sym e) (rest-on w p g .below))
-      (heaviest-positive w doubles normal) (weighed-second w doubles normal u n (h .rng) (h .directions) (h .sweeps))
+      (heaviest-positive w doubles normal) (weighed-second w doubles normal matrix n (h .rng) (h .directions) (h .sweeps))
 
   -- both colourings, where they are clear
-  pub pass-gets-somewhere : length w ≤ 256 → PassClear u n h → PassGetsSomewhere u n h
+  pub pass-gets-somewhere : length w ≤ 256 → PassClear matrix n h → PassGetsSomewhere matrix n h
   pass-gets-somewhere few c =
-      let t = halvedFirst u n h in
+      let t = halvedFirst matrix n h in
       record {
         first =
             colouring-gets-somewhere _ (leftIn h h) (suc n) (h .rng)
@@ -157,9 +158,9 @@ module _ (u : ℕ → ℕ → Float) (n : ℕ) (h : Halved) (normal : Normal bin
       }
 
   -- of at most 90 weights that are not 0, whatever they and the matrix are: at most 60 are of the rest
-  pub few-weights : nonzeros w ≤ 90 → PassGetsSomewhere u n h
+  pub few-weights : nonzeros w ≤ 90 → PassGetsSomewhere matrix n h
   few-weights few =
-      let t = halvedFirst u n h in
+      let t = halvedFirst matrix n h in
       let r : length rest ≤ 60 = sixty (nonzeros w) (length rest) few (length-rest w) in
       record {
         first = few-columns _ (leftIn h h) (suc n) (h .rng) (le-trans (short w) r) first-bounded;
@@ -169,38 +170,40 @@ module _ (u : ℕ → ℕ → Float) (n : ℕ) (h : Halved) (normal : Normal bin
 -- ---- a direct call
 
 -- what an accepted call has
-record Accepted (u : List Float) (m n : ℕ) : Type 0 where
+record Accepted (matrix : List Float) (m n : ℕ) : Type 0 where
   small : m ≤ 256
-  long : length u ≡ m * n
-  most : bounded mostEntry u ≡ true
+  long : length matrix ≡ m * n
+  most : bounded mostEntry matrix ≡ true
 
-accepted : (u : List Float) (m n output numbers indices : ℕ) → coloringFault u m n output numbers indices ≡ 0 → Accepted u m n
+accepted : (matrix : List Float) (m n output numbers indices : ℕ) → coloringFault matrix m n output numbers indices ≡ 0 → Accepted matrix m n
 unfolding coloringFault
-accepted u m n output numbers indices e =
-    go (ltb 256 m) refl (ltb 4096 n) (eqb (length u) (m * n)) refl (not (eqb output m)) (scratchShort m n numbers indices) (bounded mostEntry u) refl e
+accepted matrix m n output numbers indices e =
+    go (ltb 256 m) refl (ltb 4096 n) (eqb (length matrix) (m * n)) refl (not (eqb output m)) (scratchShort m n numbers indices)
+    (bounded mostEntry matrix) refl e
   where
-    go : (a : Bool) → ltb 256 m ≡ a → (b c : Bool) → eqb (length u) (m * n) ≡ c → (d f g : Bool) → bounded mostEntry u ≡ g
-        → _≡_ {A = ℕ} (pick (a || b) 3 (pick (not c || d) 4 (pick f 6 (pick g 0 11)))) 0 → Accepted u m n
+    go : (a : Bool) → ltb 256 m ≡ a → (b c : Bool) → eqb (length matrix) (m * n) ≡ c → (d f g : Bool) → bounded mostEntry matrix ≡ g
+        → _≡_ {A = ℕ} (pick (a || b) 3 (pick (not c || d) 4 (pick f 6 (pick g 0 11)))) 0 → Accepted matrix m n
     go true x b c y d f g z e = absurd (let q : ⊥ = omega arith in q)
     go false x true c y d f g z e = absurd (let q : ⊥ = omega arith in q)
     go false x false false y d f g z e = absurd (let q : ⊥ = omega arith in q)
     go false x false true y true f g z e = absurd (let q : ⊥ = omega arith in q)
     go false x false true y false true g z e = absurd (let q : ⊥ = omega arith in q)
     go false x false true y false false false z e = absurd (let q : ⊥ = omega arith in q)
-    go false x false true y false false true z e = record { small = ltb-false 256 m x; long = eqb-true (length u) (m * n) y; most = z }
+    go false x false true y false false true z e = record { small = ltb-false 256 m x; long = eqb-true (length matrix) (m * n) y; most = z }
 
 -- the entries of an accepted call
-call-bounded : (u : List Float) (m n : ℕ) → ((i : ℕ) → T (fits binary64 (at u i))) → Accepted u m n → Bounded m n (columnsOf u n)
+call-bounded : (matrix : List Float) (m n : ℕ) → ((i : ℕ) → T (fits binary64 (at matrix i))) → Accepted matrix m n → Bounded m n (columnsOf matrix n)
 unfolding fits
-call-bounded u m n doubles a = record {
+call-bounded matrix m n doubles a = record {
   each = λ p i h g.
-      within-of u 32 mostEntry most-is tt (lit≤ tt) doubles (a .most) (p * n + i) (subst (λ (k : ℕ). p * n + i < k) (sym (a .long)) (place-inside p i m n h g));
+      within-of matrix 32 mostEntry most-is tt (lit≤ tt) doubles (a .most) (p * n + i)
+      (subst (λ (k : ℕ). p * n + i < k) (sym (a .long)) (place-inside p i m n h g));
 }
 
 -- by the generator of edition 1, with which a direct call starts
-pub call-gets-somewhere : (u : List Float) (m n output numbers indices seed : ℕ) → ((i : ℕ) → T (fits binary64 (at u i)))
-    → coloringFault u m n output numbers indices ≡ 0
-    → Clear (columnsOf u n) m n (seeded seed 1) → GetsSomewhere (columnsOf u n) m n (seeded seed 1)
-call-gets-somewhere u m n output numbers indices seed doubles e c =
-    let a = accepted u m n output numbers indices e in
-    colouring-gets-somewhere (columnsOf u n) m n (seeded seed 1) (a .small) (call-bounded u m n doubles a) c
+pub call-gets-somewhere : (matrix : List Float) (m n output numbers indices seed : ℕ) → ((i : ℕ) → T (fits binary64 (at matrix i)))
+    → coloringFault matrix m n output numbers indices ≡ 0
+    → Clear (columnsOf matrix n) m n (seeded seed 1) → GetsSomewhere (columnsOf matrix n) m n (seeded seed 1)
+call-gets-somewhere matrix m n output numbers indices seed doubles e c =
+    let a = accepted matrix m n output numbers indices e in
+    colouring-gets-somewhere (columnsOf matrix n) m n (seeded seed 1) (a .small) (call-bounded matrix m n doubles a) c

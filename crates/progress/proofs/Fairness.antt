@@ -34,7 +34,7 @@ use Rattle.freeze.specs.Freeze.{axis}
 use Rattle.bounded.proofs.Within.{Within, no-units}
 use Rattle.bounded.proofs.Taken.{Spot, Blank}
 use Rattle.bounded.proofs.Bases.{Row, Basis, inserted-keeps}
-use Rattle.bounded.proofs.Loose.{Lent, Few, inserted-few}
+use Rattle.bounded.proofs.Loose.{WideRow, Few, inserted-few}
 use Rattle.progress.specs.Clear.{leastEntry, blankRow, tinyRow, clear, Clear, sizable, Sizable}
 use Rattle.progress.specs.Original.{Generator, before, columnsAt, entriesAt}
 use Rattle.progress.proofs.Standing.{Fair}
@@ -60,7 +60,7 @@ flat-at l j h = getD-tab (λ (i : ℕ). plusZero) l j nan h
 axis-there : (l p : ℕ) → p < l → at (axis l p) p ≡ one
 axis-there l p h = getD-set-same (repeated plusZero l) p one nan (subst (λ (m : ℕ). p < m) (sym (length-tab (λ (i : ℕ). plusZero) l)) h)
 
-axis-lent : (l p : ℕ) → Lent l (axis l p)
+axis-lent : (l p : ℕ) → WideRow l (axis l p)
 axis-lent l p = record { wide = length-set (repeated plusZero l) p one ∙ length-tab (λ (i : ℕ). plusZero) l; each = λ j h. go j h (eqb j p) refl }
   where
     go : (j : ℕ) → j < l → (t : Bool) → eqb j p ≡ t → Within binary64 (2 ^ 1106) (at (axis l p) j)
@@ -129,7 +129,7 @@ module _ (a : ℕ → ℕ → Float) (l n : ℕ) (bounded : Bounded l n a) where
   row-at : (i j : ℕ) → j < l → at (rowOf a l i) j ≡ a j i
   row-at i j h = getD-tab (λ q. a q i) l j nan h
 
-  row-lent : (i : ℕ) → i < n → Lent l (rowOf a l i)
+  row-lent : (i : ℕ) → i < n → WideRow l (rowOf a l i)
   row-lent i h = record { wide = length-tab (λ q. a q i) l; each = λ j g. subst (Within binary64 (2 ^ 1106)) (sym (row-at i j g)) (bounded .each j i g h) }
 
   -- a row that is 0, or not tiny

@@ -174,16 +174,16 @@ module _ (w : List Float) (doubles : (j : ℕ) → T (fits binary64 (at w j))) (
   weighed-first = record { each = λ j a. record { ends = among-ends j a; most = twice-most (mag binary64 (at w j)) (mag binary64 ω) (among-most j a) } }
 
   -- and at the second, of what the first made of them
-  pub weighed-second : (u : ℕ → ℕ → Float) (n : ℕ) (rng : Generator) (directions sweeps : ℕ)
-      → Weighed (halvedOnce plusZero u n ω rest (record { w = w; rng = rng; directions = directions; sweeps = sweeps }) .w) ω rest
-  weighed-second u n rng directions sweeps =
-      record { each = λ j a. go j a (moved-once plusZero u n ω rest from (rest-distinct w) (λ p h. rest-on w p h .below) j) }
+  pub weighed-second : (matrix : ℕ → ℕ → Float) (n : ℕ) (rng : Generator) (directions sweeps : ℕ)
+      → Weighed (halvedOnce plusZero matrix n ω rest (record { w = w; rng = rng; directions = directions; sweeps = sweeps }) .w) ω rest
+  weighed-second matrix n rng directions sweeps =
+      record { each = λ j a. go j a (moved-once plusZero matrix n ω rest from (rest-distinct w) (λ p h. rest-on w p h .below) j) }
     where
       from : Halved
       from = record { w = w; rng = rng; directions = directions; sweeps = sweeps }
 
       v : ℕ → Float
-      v j = at (halvedOnce plusZero u n ω rest from .w) j
+      v j = at (halvedOnce plusZero matrix n ω rest from .w) j
 
       go : (j : ℕ) → Among rest j → Moved w rest j (v j) → Within binary64 (2 * mag binary64 ω) (v j)
       go j a (stays e) = subst (Within binary64 (2 * mag binary64 ω)) (sym e) (weighed-first .each j a)
@@ -215,10 +215,10 @@ scale-within {x} {ω} q p =
     record { ends = inside-finite (record { held = div-fits f x ω; num = r .number }) (lt-of-le-of-lt m (lit< tt)); most = m }
 
 -- the columns of the matrix: finite entries of at most 1
-pub record Columns (m n : ℕ) (u : ℕ → ℕ → Float) : Type 0 where
-  pub each : (j i : ℕ) → j < m → i < n → Within binary64 K (u j i)
+pub record Columns (m n : ℕ) (matrix : ℕ → ℕ → Float) : Type 0 where
+  pub each : (j i : ℕ) → j < m → i < n → Within binary64 K (matrix j i)
 
-module _ (u : ℕ → ℕ → Float) (n : ℕ) (w : List Float) (ω : Float) (rest : List ℕ) (columns : Columns (length w) n u)
+module _ (matrix : ℕ → ℕ → Float) (n : ℕ) (w : List Float) (ω : Float) (rest : List ℕ) (columns : Columns (length w) n matrix)
     (inside : (p : ℕ) → p < length rest → getD rest p 0 < length w)
     (positive : 0 < length rest → Positive binary64 ω) (weighed : Weighed w ω rest) where
   abbrev some : List ℕ
@@ -228,7 +228,7 @@ module _ (u : ℕ → ℕ → Float) (n : ℕ) (w : List Float) (ω : Float) (re
   chosen p h = every-at (every-those {P = Among rest} (isOn w) rest (length rest) (λ q l. record { place = q; under = l; there = refl })) p h .1
 
   -- each scaled entry is at most 2, and the row of scales too
-  pub scaled-within : (p i : ℕ) → p < length some → Within binary64 (2 * K) (scaledColumns u n w ω some p i)
+  pub scaled-within : (p i : ℕ) → p < length some → Within binary64 (2 * K) (scaledColumns matrix n w ω some p i)
   scaled-within p i h = go (ltb i n) refl
     where
       a : Among rest (getD some p 0)
@@ -237,14 +237,15 @@ module _ (u : ℕ → ℕ → Float) (n : ℕ) (w : List Float) (ω : Float) (re
       scale : Within binary64 (2 * K) (scaleAt w ω some p)
       scale = scale-within (positive (no-less (a .place) (length rest) (a .under))) (weighed .each (getD some p 0) a)
 
-      entry : i < n → Within binary64 K (u (getD some p 0) i)
+      entry : i < n → Within binary64 K (matrix (getD some p 0) i)
       entry g = columns .each (getD some p 0) i (subst (λ (j : ℕ). j < length w) (a .there) (inside (a .place) (a .under))) g
 
-      go : (t : Bool) → ltb i n ≡ t → Within binary64 (2 * K) (pick t (mul binary64 (u (getD some p 0) i) (scaleAt w ω some p)) (absOf (scaleAt w ω some p)))
+      go : (t : Bool) → ltb i n ≡ t → Within binary64 (2 * K)
+          (pick t (mul binary64 (matrix (getD some p 0) i) (scaleAt w ω some p)) (absOf (scaleAt w ω some p)))
       go true e =
           let x = entry (ltb-true i n e) in
           record { ends = mul-finite (x .ends) (scale .ends) (x .most); most = le-trans (mul-at-most (x .ends) (scale .ends) (x .most)) (scale .most) }
       go false e = record { ends = abs-finite (scale .ends); most = le-trans (le-of-eq (abs-mag binary64 (scaleAt w ω some p))) (scale .most) }
 
-  pub scaled-bounded : Bounded (length some) (suc n) (scaledColumns u n w ω some)
+  pub scaled-bounded : Bounded (length some) (suc n) (scaledColumns matrix n w ω some)
   scaled-bounded = record { each = λ p i h g. let x = scaled-within p i h in record { ends = x .ends; most = le-trans (x .most) (lit≤ tt) } }

@@ -72,11 +72,11 @@ module _ (z : Float) (a : ℕ → ℕ → Float) (l n : ℕ) where
       apart e = omega arith
 
       go : (t : Bool) → Untouched w v p → Untouched w (pick t (frozenAt z a l n v k) v) p
-      go true u = record {
-        x-is = getD-set-other (v .x) k p (signumOf (at (v .x) k)) nan apart ∙ u .x-is;
-        free-is = ap (λ (m : ℕ). eqb m 1) (getD-set-other (v .free) k p 0 0 apart) ∙ u .free-is;
+      go true matrix = record {
+        x-is = getD-set-other (v .x) k p (signumOf (at (v .x) k)) nan apart ∙ matrix .x-is;
+        free-is = ap (λ (m : ℕ). eqb m 1) (getD-set-other (v .free) k p 0 0 apart) ∙ matrix .free-is;
       }
-      go false u = u
+      go false matrix = matrix
 
   -- one more, or as many
   frozen-grows : (w : Walk) (k : ℕ) → freezeTo z a l n w k .frozen ≤ freezeTo z a l n w (suc k) .frozen
@@ -105,13 +105,13 @@ module _ (z : Float) (a : ℕ → ℕ → Float) (l n : ℕ) where
       v : Walk
       v = freezeTo z a l n w p
 
-      u : Untouched w v p
-      u = untouched w p p (le-refl p)
+      matrix : Untouched w v p
+      matrix = untouched w p p (le-refl p)
 
       now : freezes v p ≡ true
       now =
-          ap (λ (b : Bool). b && le freezeLimit (absOf (at (v .x) p))) (u .free-is) ∙ ap
-          (λ (y : Float). isSet (w .free) p && le freezeLimit (absOf y)) (u .x-is) ∙ e
+          ap (λ (b : Bool). b && le freezeLimit (absOf (at (v .x) p))) (matrix .free-is) ∙ ap
+          (λ (y : Float). isSet (w .free) p && le freezeLimit (absOf y)) (matrix .x-is) ∙ e
 
   -- where one freezes, more are frozen
   pub some-frozen : (w : Walk) (p : ℕ) → p < l → freezes w p ≡ true → w .frozen < freezeTo z a l n w l .frozen
@@ -168,9 +168,9 @@ module _ (a : ℕ → ℕ → Float) (l n : ℕ) (fair : Fair a l n) where
         (subst (λ (y : Float). T (le freezeLimit (absOf y))) (sym at-q) (q .freezes-now)))
       where
         both : (b c : Bool) → b ≡ true → T c → (b && c) ≡ true
-        both true true e u = refl
-        both true false e u = absurd u
-        both false c e u = e
+        both true true e matrix = refl
+        both true false e matrix = absurd matrix
+        both false c e matrix = e
 
     -- so the step goes on where it is finite, and only there
     pub along-on : steppedAlong plusZero a l n w g .more ≡ finite t

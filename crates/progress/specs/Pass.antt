@@ -11,22 +11,22 @@ use Rattle.progress.specs.Clear.{Clear}
 
 -- what the first halving of a pass on h leaves
 abbrev pub halvedFirst : (ℕ → ℕ → Float) → ℕ → Halved → Halved
-halvedFirst u n h = halvedOnce plusZero u n (omegaOf (h .w)) (restOf (h .w)) h
+halvedFirst matrix n h = halvedOnce plusZero matrix n (omegaOf (h .w)) (restOf (h .w)) h
 
 -- the matrix that a halving from t colours, in a pass on h
 abbrev pub scaledIn : (ℕ → ℕ → Float) → ℕ → Halved → Halved → ℕ → ℕ → Float
-scaledIn u n h t = scaledColumns u n (t .w) (omegaOf (h .w)) (remaining (t .w) (restOf (h .w)))
+scaledIn matrix n h t = scaledColumns matrix n (t .w) (omegaOf (h .w)) (remaining (t .w) (restOf (h .w)))
 
 -- how many columns it has
 abbrev pub leftIn : Halved → Halved → ℕ
 leftIn h t = length (remaining (t .w) (restOf (h .w)))
 
 -- every phase of both colourings is clear
-pub record PassClear (u : ℕ → ℕ → Float) (n : ℕ) (h : Halved) : Type 0 where
-  pub first : Clear (scaledIn u n h h) (leftIn h h) (suc n) (h .rng)
-  pub second : let t = halvedFirst u n h in Clear (scaledIn u n h t) (leftIn h t) (suc n) (t .rng)
+pub record PassClear (matrix : ℕ → ℕ → Float) (n : ℕ) (h : Halved) : Type 0 where
+  pub first : Clear (scaledIn matrix n h h) (leftIn h h) (suc n) (h .rng)
+  pub second : let t = halvedFirst matrix n h in Clear (scaledIn matrix n h t) (leftIn h t) (suc n) (t .rng)
 
 -- every step of both gets somewhere
-pub record PassGetsSomewhere (u : ℕ → ℕ → Float) (n : ℕ) (h : Halved) : Type 0 where
-  pub first : GetsSomewhere (scaledIn u n h h) (leftIn h h) (suc n) (h .rng)
-  pub second : let t = halvedFirst u n h in GetsSomewhere (scaledIn u n h t) (leftIn h t) (suc n) (t .rng)
+pub record PassGetsSomewhere (matrix : ℕ → ℕ → Float) (n : ℕ) (h : Halved) : Type 0 where
+  pub first : GetsSomewhere (scaledIn matrix n h h) (leftIn h h) (suc n) (h .rng)
+  pub second : let t = halvedFirst matrix n h in GetsSomewhere (scaledIn matrix n h t) (leftIn h t) (suc n) (t .rng)

@@ -22,22 +22,22 @@ fn try_flip(
     x: &mut [f64],
     j: usize,
     from: Found,
-    u: &[f64],
+    matrix: &[f64],
     n: usize,
     cols: &[u32],
     scale: &[f64],
 ) -> Found
-    requires { ⌜ Chosen (now u) n (now cols) (now scale) (length (now ax)) × (length (now x) ≡ length (now cols)) ×
+    requires { ⌜ Chosen (now matrix) n (now cols) (now scale) (length (now ax)) × (length (now x) ≡ length (now cols)) ×
         (j < length (now cols)) ⌝ }
-    ensures { λ r. ⌜ Tried (entryOf (now (u .entry)) n (now (cols .entry)) (now (scale .entry)) j) j
+    ensures { λ r. ⌜ Tried (entryOf (now (matrix .entry)) n (now (cols .entry)) (now (scale .entry)) j) j
         (searchOf (now (x .entry)) (now (ax .entry)) from) (searchOf (now (x .exit)) (now (ax .exit)) r) ⌝ }
 {
     let a = (cols[j] as usize) * n;
     let e = a + n;
     let s = scale[j];
     let t = 2.0 * x[j];
-    if stays_below(&ax[..], &u[a..e], s, t, from.best * (1.0 - 1e-12)) {
-        less_column(&mut ax[..], &u[a..e], s, t);
+    if stays_below(&ax[..], &matrix[a..e], s, t, from.best * (1.0 - 1e-12)) {
+        less_column(&mut ax[..], &matrix[a..e], s, t);
         x[j] = -x[j];
         return Found {
             best: max_abs(&ax[..]),
@@ -52,13 +52,13 @@ fn sweep(
     ax: &mut [f64],
     x: &mut [f64],
     best: f64,
-    u: &[f64],
+    matrix: &[f64],
     n: usize,
     cols: &[u32],
     scale: &[f64],
 ) -> Found
-    requires { ⌜ Chosen (now u) n (now cols) (now scale) (length (now ax)) × (length (now x) ≡ length (now cols)) ⌝ }
-    ensures { λ r. ⌜ Swept (entryOf (now (u .entry)) n (now (cols .entry)) (now (scale .entry)))
+    requires { ⌜ Chosen (now matrix) n (now cols) (now scale) (length (now ax)) × (length (now x) ≡ length (now cols)) ⌝ }
+    ensures { λ r. ⌜ Swept (entryOf (now (matrix .entry)) n (now (cols .entry)) (now (scale .entry)))
         (length (now (cols .entry))) (now (x .entry)) (now (ax .entry)) best (searchOf (now (x .exit)) (now (ax .exit)) r) ⌝ }
 {
     let mut at = Found {
@@ -67,7 +67,7 @@ fn sweep(
     };
     let mut j = 0usize;
     while j < cols.len() {
-        let next = try_flip(ax, x, j, at, u, n, cols, scale);
+        let next = try_flip(ax, x, j, at, matrix, n, cols, scale);
         at = next;
         j += 1;
     }
@@ -78,19 +78,19 @@ fn sweep(
 pub fn local_search(
     ax: &mut [f64],
     x: &mut [f64],
-    u: &[f64],
+    matrix: &[f64],
     n: usize,
     cols: &[u32],
     scale: &[f64],
 ) -> usize
-    requires { ⌜ Chosen (now u) n (now cols) (now scale) (length (now ax)) × (length (now x) ≡ length (now cols)) ⌝ }
-    ensures { λ r. ⌜ searchedIn (now (x .exit)) r ≡ searched (entryOf (now (u .entry)) n (now (cols .entry)) (now (scale .entry)))
+    requires { ⌜ Chosen (now matrix) n (now cols) (now scale) (length (now ax)) × (length (now x) ≡ length (now cols)) ⌝ }
+    ensures { λ r. ⌜ searchedIn (now (x .exit)) r ≡ searched (entryOf (now (matrix .entry)) n (now (cols .entry)) (now (scale .entry)))
         (length (now (cols .entry))) (now (x .entry)) (now (ax .entry)) ⌝ }
 {
     let mut best = max_abs(&ax[..]);
     let mut k = 0usize;
     while k < 100 {
-        let r = sweep(ax, x, best, u, n, cols, scale);
+        let r = sweep(ax, x, best, matrix, n, cols, scale);
         best = r.best;
         let swept = k + 1;
         if !r.improved {

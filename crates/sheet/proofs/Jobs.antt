@@ -38,12 +38,12 @@ unfolding sizeFault
 size-fault m n matrix weights output h g a b d =
     rw (not-large m n h g, eq-eqb matrix (m * n) a, eq-eqb weights m b, eq-eqb output m d, scratch-enough m n h g)
 
-pub sheet-fault : (rule : Rule) (edition : ℕ) (u : List Float) (m n : ℕ) (w : List Float) (output : ℕ) → editionFault edition ≡ 0
-    → m ≤ 32 → n ≤ 64 → length u ≡ m * n → length w ≡ m → output ≡ m → jobFault rule edition u m n w output 4136 776 ≡ sheetFault rule u m n w
+pub sheet-fault : (rule : Rule) (edition : ℕ) (matrix : List Float) (m n : ℕ) (w : List Float) (output : ℕ) → editionFault edition ≡ 0
+    → m ≤ 32 → n ≤ 64 → length matrix ≡ m * n → length w ≡ m → output ≡ m → jobFault rule edition matrix m n w output 4136 776 ≡ sheetFault rule matrix m n w
 unfolding jobFault sheetFault
-sheet-fault rule edition u m n w output known h g a b d =
-    ap (λ (e : ℕ). orElse (ruleFault rule) (orElse e (orElse (sizeFault m n (length u) (length w) output 4136 776) (valueFault u w)))) known
-    ∙ ap (λ (s : ℕ). orElse (ruleFault rule) (orElse s (valueFault u w))) (size-fault m n (length u) (length w) output h g a b d)
+sheet-fault rule edition matrix m n w output known h g a b d =
+    ap (λ (e : ℕ). orElse (ruleFault rule) (orElse e (orElse (sizeFault m n (length matrix) (length w) output 4136 776) (valueFault matrix w)))) known
+    ∙ ap (λ (s : ℕ). orElse (ruleFault rule) (orElse s (valueFault matrix w))) (size-fault m n (length matrix) (length w) output h g a b d)
 
 -- the text of an answer reads the weights only where they were returned
 text-same : (s : Answer) (w x y : List Float) → w ≡ pick (eqb (s .number) 0) x y → answerText s w ≡ answerText s x
@@ -54,19 +54,20 @@ text-same s w x y e = go (eqb (s .number) 0) refl
     go true h = ap (answerText s) (e ∙ ap (λ (b : Bool). pick b x y) h)
     go false h = rw (h)
 
-pub job-wrote : {rule : Rule} {source : SplitMix64} {u : List Float} {m n : ℕ} {w output numbers : List Float} {indices : List ℕ}
+pub job-wrote : {rule : Rule} {source : SplitMix64} {matrix : List Float} {m n : ℕ} {w output numbers : List Float} {indices : List ℕ}
     {s : Answer} {output' numbers' : List Float} {indices' : List ℕ}
-    (out : List ℕ) (r : ℕ) (out' : List ℕ) → editionFault (source .edition) ≡ 0 → m ≤ 32 → n ≤ 64 → length u ≡ m * n → length w ≡ m → length output ≡ m → length
+    (out : List ℕ) (r : ℕ) (out' : List ℕ) → editionFault (source .edition) ≡ 0 → m ≤ 32 → n ≤ 64 → length matrix ≡ m * n → length w ≡ m → length output ≡ m
+    → length
     numbers ≡ 4136 → length indices ≡ 776
-    → Thinned rule source u m n w output numbers indices s output' numbers' indices'
-    → Wrote (answerText s output') out r out' → Wrote (jobText rule source u m n w) out r out'
+    → Thinned rule source matrix m n w output numbers indices s output' numbers' indices'
+    → Wrote (answerText s output') out r out' → Wrote (jobText rule source matrix m n w) out r out'
 unfolding jobAnswer
-job-wrote {rule} {source} {u} {m} {n} {w} {output} {numbers} {indices} {s} {output'} out r out' known h g a b d k l t e =
-    let f : jobFault rule (source .edition) u m n w (length output) (length numbers) (length indices) ≡ sheetFault rule u m n w =
-    ap (λ (z : ℕ). jobFault rule (source .edition) u m n w (length output) z (length indices)) k
-    ∙ ap (jobFault rule (source .edition) u m n w (length output) 4136) l
-    ∙ sheet-fault rule (source .edition) u m n w (length output) known h g a b d in
-    let p : s ≡ jobAnswer rule source u m n w = t .answers ∙ ap (λ (z : ℕ). pick (eqb z 0) (answerOf u n w source rule) (refusal z)) f in
-    let q : answerText s output' ≡ jobText rule source u m n w =
-    text-same s output' (returned u n w source rule .w) output (t .writes) ∙ ap (λ (z : Answer). answerText z (returned u n w source rule .w)) p in
+job-wrote {rule} {source} {matrix} {m} {n} {w} {output} {numbers} {indices} {s} {output'} out r out' known h g a b d k l t e =
+    let f : jobFault rule (source .edition) matrix m n w (length output) (length numbers) (length indices) ≡ sheetFault rule matrix m n w =
+    ap (λ (z : ℕ). jobFault rule (source .edition) matrix m n w (length output) z (length indices)) k
+    ∙ ap (jobFault rule (source .edition) matrix m n w (length output) 4136) l
+    ∙ sheet-fault rule (source .edition) matrix m n w (length output) known h g a b d in
+    let p : s ≡ jobAnswer rule source matrix m n w = t .answers ∙ ap (λ (z : ℕ). pick (eqb z 0) (answerOf matrix n w source rule) (refusal z)) f in
+    let q : answerText s output' ≡ jobText rule source matrix m n w =
+    text-same s output' (returned matrix n w source rule .w) output (t .writes) ∙ ap (λ (z : Answer). answerText z (returned matrix n w source rule .w)) p in
     rw q at e

@@ -81,10 +81,10 @@ edition-known t =
     picked true x y p q = p
     picked false x y p q = q
 
-pub job-read : (t : List ℕ) (h : Head) (u w : List Float) (out : List ℕ) (r : ℕ) (out' : List ℕ) → u ≡ matrixOf t h → w ≡ weightsOf t h
-    → Wrote (jobText (h .rule) (sourceOf h) u (h .m) (h .n) w) out r out'
+pub job-read : (t : List ℕ) (h : Head) (matrix w : List Float) (out : List ℕ) (r : ℕ) (out' : List ℕ) → matrix ≡ matrixOf t h → w ≡ weightsOf t h
+    → Wrote (jobText (h .rule) (sourceOf h) matrix (h .m) (h .n) w) out r out'
     → Wrote (jobText (h .rule) (sourceOf h) (matrixOf t h) (h .m) (h .n) (weightsOf t h)) out r out'
-job-read t h u w out r out' e f g = rw (← e, ← f) g
+job-read t h matrix w out r out' e f g = rw (← e, ← f) g
 
 pub sheet-bad : (t : List ℕ) (line : ℕ) (out : List ℕ) (r : ℕ) (out' : List ℕ) → line ≡ wrongLine t → (line ≡ 0 → ⊥)
     → WroteOn (noteText badWord line) 0 out r out' → 1342 ≤ length out
@@ -128,9 +128,9 @@ length-answer s w h = go (eqb (s .number) 0)
     go true = rw (length-append (okLine s) (weightLines w (length w))) (omega (arith, length-ok s, length-lines w (length w)))
     go false = omega (arith, length-note refusedWord (s .number), width-most (s .number))
 
-length-returned : (u : List Float) (n : ℕ) (w : List Float) (source : SplitMix64) (rule : Rule) → length (returned u n w source rule .w) ≡ length w
-length-returned u n w source rule =
-    length-stage plusZero (columnsOf u n) n (normalized plusZero w) source (stopFor u n w source rule) ∙ length-normalized plusZero w
+length-returned : (matrix : List Float) (n : ℕ) (w : List Float) (source : SplitMix64) (rule : Rule) → length (returned matrix n w source rule .w) ≡ length w
+length-returned matrix n w source rule =
+    length-stage plusZero (columnsOf matrix n) n (normalized plusZero w) source (stopFor matrix n w source rule) ∙ length-normalized plusZero w
 
 pub length-job : (t : List ℕ) (h : Head) → h .m ≤ 32 → length (jobText (h .rule) (sourceOf h) (matrixOf t h) (h .m) (h .n) (weightsOf t h)) ≤ 1342
 length-job t h g =

@@ -44,15 +44,16 @@ answerText r w = pick (eqb (r .number) 0) (okLine r ++ weightLines w (length w))
 
 -- What a sheet's job is refused for: of the numbers, a sheet can reach 1, 12, 2, 5, 7, 8 and 9; its edition is 1 or 2.
 unfoldable pub sheetFault : Rule → List Float → ℕ → ℕ → List Float → ℕ
-sheetFault rule u m n w = orElse (ruleFault rule) (orElse (pick (eqb m 0 || eqb n 0) 5 0) (valueFault u w))
+sheetFault rule matrix m n w = orElse (ruleFault rule) (orElse (pick (eqb m 0 || eqb n 0) 5 0) (valueFault matrix w))
 
 -- what the job of a matrix, weights, generator and rule answers
 unfoldable pub jobAnswer : Rule → SplitMix64 → List Float → ℕ → ℕ → List Float → Answer
-jobAnswer rule source u m n w = pick (eqb (sheetFault rule u m n w) 0) (answerOf u n w source rule) (refusal (sheetFault rule u m n w))
+jobAnswer rule source matrix m n w = pick (eqb (sheetFault rule matrix m n w) 0) (answerOf matrix n w source rule)
+    (refusal (sheetFault rule matrix m n w))
 
 -- the text that answers the job
 abbrev pub jobText : Rule → SplitMix64 → List Float → ℕ → ℕ → List Float → List ℕ
-jobText rule source u m n w = answerText (jobAnswer rule source u m n w) (returned u n w source rule .w)
+jobText rule source matrix m n w = answerText (jobAnswer rule source matrix m n w) (returned matrix n w source rule .w)
 
 -- the generator that a first line names
 abbrev pub sourceOf : Head → SplitMix64

@@ -31,30 +31,30 @@ answered : (fault : ℕ) (a : Answer) → pick (eqb fault 0) a (refusal fault) .
 answered zero a h = refl
 answered (suc fault) a h = absurd (let g : suc fault ≡ 0 = rw (eqb·suc-zero fault) at h in omega arith)
 
-module _ {rule : Rule} {source : SplitMix64} {u : List Float} {m n : ℕ} {w output numbers : List Float} {indices : List ℕ}
+module _ {rule : Rule} {source : SplitMix64} {matrix : List Float} {m n : ℕ} {w output numbers : List Float} {indices : List ℕ}
     {r : Answer} {output' numbers' : List Float} {indices' : List ℕ}
-    (job : Thinned rule source u m n w output numbers indices r output' numbers' indices') where
+    (job : Thinned rule source matrix m n w output numbers indices r output' numbers' indices') where
   -- number 0 is given only where there is no fault
-  pub number-none : r .number ≡ 0 → jobFault rule (source .edition) u m n w (length output) (length numbers) (length indices) ≡ 0
+  pub number-none : r .number ≡ 0 → jobFault rule (source .edition) matrix m n w (length output) (length numbers) (length indices) ≡ 0
   number-none h =
-      answered (jobFault rule (source .edition) u m n w (length output) (length numbers) (length indices)) (answerOf u n w source rule)
+      answered (jobFault rule (source .edition) matrix m n w (length output) (length numbers) (length indices)) (answerOf matrix n w source rule)
       (sym (ap (λ (x : Answer). x .number) (job .answers)) ∙ h)
 
   -- and wherever there is none, with the stage
-  pub answer-there : jobFault rule (source .edition) u m n w (length output) (length numbers) (length indices) ≡ 0 → r ≡ answerOf u n w source rule
-  answer-there f = job .answers ∙ ap (λ (x : ℕ). pick (eqb x 0) (answerOf u n w source rule) (refusal x)) f
+  pub answer-there : jobFault rule (source .edition) matrix m n w (length output) (length numbers) (length indices) ≡ 0 → r ≡ answerOf matrix n w source rule
+  answer-there f = job .answers ∙ ap (λ (x : ℕ). pick (eqb x 0) (answerOf matrix n w source rule) (refusal x)) f
 
-  pub number-there : jobFault rule (source .edition) u m n w (length output) (length numbers) (length indices) ≡ 0 → r .number ≡ 0
+  pub number-there : jobFault rule (source .edition) matrix m n w (length output) (length numbers) (length indices) ≡ 0 → r .number ≡ 0
   unfolding answerOf
   number-there f = rw (answer-there f)
 
   -- the answer and the output then
-  pub answer-stage : jobFault rule (source .edition) u m n w (length output) (length numbers) (length indices) ≡ 0
-      → r ≡ answerAt (columnsOf u n) n (normalized plusZero w) source rule (stopFor u n w source rule)
+  pub answer-stage : jobFault rule (source .edition) matrix m n w (length output) (length numbers) (length indices) ≡ 0
+      → r ≡ answerAt (columnsOf matrix n) n (normalized plusZero w) source rule (stopFor matrix n w source rule)
   unfolding answerOf
   answer-stage f = answer-there f
 
-  pub output-stage : r .number ≡ 0 → output' ≡ returned u n w source rule .w
+  pub output-stage : r .number ≡ 0 → output' ≡ returned matrix n w source rule .w
   output-stage h = job .writes ∙ rw h
 
 -- every one passes
@@ -70,15 +70,15 @@ every f (suc k) h j l =
     go (no g) a b r = let e : j ≡ k = omega arith in rw e b
 
 -- the values of an accepted job
-pub record Valued (u w : List Float) : Type 0 where
-  pub entries : bounded one u ≡ true
+pub record Valued (matrix w : List Float) : Type 0 where
+  pub entries : bounded one matrix ≡ true
   pub ends : (j : ℕ) → j < length w → T (finite (at w j))
   pub total : sound (l1Of plusZero w) ≡ true
 
-pub values-good : (u w : List Float) → valueFault u w ≡ 0 → Valued u w
+pub values-good : (matrix w : List Float) → valueFault matrix w ≡ 0 → Valued matrix w
 unfolding valueFault
-values-good u w h =
-    let a = go (bounded one u) (allTo (λ j. finite (at w j)) (length w)) (sound (l1Of plusZero w)) h in
+values-good matrix w h =
+    let a = go (bounded one matrix) (allTo (λ j. finite (at w j)) (length w)) (sound (l1Of plusZero w)) h in
     record { entries = a .0; ends = λ j l. shown (finite (at w j)) (every (λ j. finite (at w j)) (length w) (a .1 .0) j l); total = a .1 .1 }
   where
     go : (a b c : Bool) → _≡_ {A = ℕ} (pick a (pick b (pick c 0 9) 8) 7) 0 → (a ≡ true) × ((b ≡ true) × (c ≡ true))
@@ -134,26 +134,26 @@ sizes-good m n matrix weights output numbers indices h =
     go false false false false h = (refl, (refl, (refl, refl)))
 
 -- all of it
-pub record Accepted (rule : Rule) (u : List Float) (m n : ℕ) (w : List Float) (output numbers indices : ℕ) : Type 0 where
+pub record Accepted (rule : Rule) (matrix : List Float) (m n : ℕ) (w : List Float) (output numbers indices : ℕ) : Type 0 where
   pub ruled : ruleFault rule ≡ 0
-  pub sized : Sized m n (length u) (length w) output numbers indices
-  pub valued : Valued u w
+  pub sized : Sized m n (length matrix) (length w) output numbers indices
+  pub valued : Valued matrix w
 
-pub accepted : (rule : Rule) (edition : ℕ) (u : List Float) (m n : ℕ) (w : List Float) (output numbers indices : ℕ)
-    → jobFault rule edition u m n w output numbers indices ≡ 0 → Accepted rule u m n w output numbers indices
+pub accepted : (rule : Rule) (edition : ℕ) (matrix : List Float) (m n : ℕ) (w : List Float) (output numbers indices : ℕ)
+    → jobFault rule edition matrix m n w output numbers indices ≡ 0 → Accepted rule matrix m n w output numbers indices
 unfolding jobFault
-accepted rule edition u m n w output numbers indices h =
-    let sizes : ℕ = sizeFault m n (length u) (length w) output numbers indices in
-    let a = no-fault (ruleFault rule) (orElse (editionFault edition) (orElse sizes (valueFault u w))) h in
-    let b = no-fault (editionFault edition) (orElse sizes (valueFault u w)) (a .1) in
-    let c = no-fault sizes (valueFault u w) (b .1) in
-    record { ruled = a .0; sized = sizes-good m n (length u) (length w) output numbers indices (c .0); valued = values-good u w (c .1) }
+accepted rule edition matrix m n w output numbers indices h =
+    let sizes : ℕ = sizeFault m n (length matrix) (length w) output numbers indices in
+    let a = no-fault (ruleFault rule) (orElse (editionFault edition) (orElse sizes (valueFault matrix w))) h in
+    let b = no-fault (editionFault edition) (orElse sizes (valueFault matrix w)) (a .1) in
+    let c = no-fault sizes (valueFault matrix w) (b .1) in
+    record { ruled = a .0; sized = sizes-good m n (length matrix) (length w) output numbers indices (c .0); valued = values-good matrix w (c .1) }
 
 -- and its values are without a fault
-pub values-fine : (rule : Rule) (edition : ℕ) (u : List Float) (m n : ℕ) (w : List Float) (output numbers indices : ℕ)
-    → jobFault rule edition u m n w output numbers indices ≡ 0 → valueFault u w ≡ 0
+pub values-fine : (rule : Rule) (edition : ℕ) (matrix : List Float) (m n : ℕ) (w : List Float) (output numbers indices : ℕ)
+    → jobFault rule edition matrix m n w output numbers indices ≡ 0 → valueFault matrix w ≡ 0
 unfolding jobFault
-values-fine rule edition u m n w output numbers indices h =
-    let sizes : ℕ = sizeFault m n (length u) (length w) output numbers indices in
-    let a = no-fault (ruleFault rule) (orElse (editionFault edition) (orElse sizes (valueFault u w))) h in
-    no-fault sizes (valueFault u w) (no-fault (editionFault edition) (orElse sizes (valueFault u w)) (a .1) .1) .1
+values-fine rule edition matrix m n w output numbers indices h =
+    let sizes : ℕ = sizeFault m n (length matrix) (length w) output numbers indices in
+    let a = no-fault (ruleFault rule) (orElse (editionFault edition) (orElse sizes (valueFault matrix w))) h in
+    no-fault sizes (valueFault matrix w) (no-fault (editionFault edition) (orElse sizes (valueFault matrix w)) (a .1) .1) .1

@@ -34,17 +34,17 @@ use Rattle.sparsification.proofs.Accepting.{Accepted, accepted, number-
 use Rattle.sparsification.proofs.DemandThree.{Doubles, start-normal, start-few, kept-there}
 use Rattle.draw.specs.declared.SplitMix64.{SplitMix64}
 
-module _ {rule : Rule} {source : SplitMix64} {u : List Float} {m n : ℕ} {w output numbers : List Float} {indices : List ℕ}
+module _ {rule : Rule} {source : SplitMix64} {matrix : List Float} {m n : ℕ} {w output numbers : List Float} {indices : List ℕ}
     {r : Answer} {output' numbers' : List Float} {indices' : List ℕ}
-    (job : Thinned rule source u m n w output numbers indices r output' numbers' indices') (doubles : Doubles w) (ok : r .number ≡ 0) where
+    (job : Thinned rule source matrix m n w output numbers indices r output' numbers' indices') (doubles : Doubles w) (ok : r .number ≡ 0) where
   abbrev start : List Float
   start = normalized plusZero w
 
   abbrev stop : ℕ
-  stop = stopFor u n w source rule
+  stop = stopFor matrix n w source rule
 
-  fine : Accepted rule u m n w (length output) (length numbers) (length indices)
-  fine = accepted rule (source .edition) u m n w (length output) (length numbers) (length indices) (number-none job ok)
+  fine : Accepted rule matrix m n w (length output) (length numbers) (length indices)
+  fine = accepted rule (source .edition) matrix m n w (length output) (length numbers) (length indices) (number-none job ok)
 
   normal : Normal binary64 (length start) (at start)
   normal = start-normal doubles fine
@@ -52,54 +52,54 @@ module _ {rule : Rule} {source : SplitMix64} {u : List Float} {m n : ℕ} {w out
   long : length start ≡ m
   long = length-normalized plusZero w ∙ fine .sized .given
 
-  falls : Falls plusZero (columnsOf u n) n start source
-  falls = falling (columnsOf u n) n start source normal (start-few doubles fine)
+  falls : Falls plusZero (columnsOf matrix n) n start source
+  falls = falling (columnsOf matrix n) n start source normal (start-few doubles fine)
 
-  is : r ≡ answerAt (columnsOf u n) n start source rule stop
+  is : r ≡ answerAt (columnsOf matrix n) n start source rule stop
   is = answer-stage job (number-none job ok)
 
   -- what the rule asks for
   pub one-keeps : keeps rule r ≡ true
-  one-keeps = rw is (kept-there (columnsOf u n) n start source normal (start-few doubles fine) rule (fine .ruled))
+  one-keeps = rw is (kept-there (columnsOf matrix n) n start source normal (start-few doubles fine) rule (fine .ruled))
 
   -- stages 0 to 8
   pub at-most-nine : r .stage ≤ 8
   at-most-nine =
-      rw is (nine-stages (columnsOf u n) n start source falls (start-few doubles fine) stop
-      (leads plusZero (columnsOf u n) n start source falls rule (fine .ruled)))
+      rw is (nine-stages (columnsOf matrix n) n start source falls (start-few doubles fine) stop
+      (leads plusZero (columnsOf matrix n) n start source falls rule (fine .ruled)))
 
   -- at most eight directions for each weight, and at most 1600 sweeps
   pub directions-few : r .directions ≤ 8 * m
   directions-few =
-      rw is (omega (arith, job-directions (columnsOf u n) n start source falls (start-few doubles fine) rule (fine .ruled), long))
+      rw is (omega (arith, job-directions (columnsOf matrix n) n start source falls (start-few doubles fine) rule (fine .ruled), long))
 
   pub sweeps-few : r .sweeps ≤ 1600
-  sweeps-few = rw is (job-sweeps (columnsOf u n) n start source falls (start-few doubles fine) rule (fine .ruled))
+  sweeps-few = rw is (job-sweeps (columnsOf matrix n) n start source falls (start-few doubles fine) rule (fine .ruled))
 
   -- the single fields
   pub single-nonzeros : getD (r .«path_nonzeros») (r .stage) 0 ≡ r .nonzeros
-  single-nonzeros = rw is (path-at 0 (entriesAt plusZero (columnsOf u n) n start source) stop stop 0 (omega arith))
+  single-nonzeros = rw is (path-at 0 (entriesAt plusZero (columnsOf matrix n) n start source) stop stop 0 (omega arith))
 
   pub single-change : getD (r .«path_change») (r .stage) nan ≡ r .change
-  single-change = rw is (path-at plusZero (λ i. movedBy (columnsOf u n) n start (stageOf plusZero (columnsOf u n) n start source i))
+  single-change = rw is (path-at plusZero (λ i. movedBy (columnsOf matrix n) n start (stageOf plusZero (columnsOf matrix n) n start source i))
       stop stop nan (omega arith))
 
   -- along the path
-  entries-at : (i : ℕ) → i ≤ r .stage → getD (r .«path_nonzeros») i 0 ≡ entriesAt plusZero (columnsOf u n) n start source i
+  entries-at : (i : ℕ) → i ≤ r .stage → getD (r .«path_nonzeros») i 0 ≡ entriesAt plusZero (columnsOf matrix n) n start source i
   entries-at i l =
       let e : r .stage ≡ stop = ap (λ (x : Answer). x .stage) is in
-      ap (λ (x : Answer). getD (x .«path_nonzeros») i 0) is ∙ path-at 0 (entriesAt plusZero (columnsOf u n) n start source) stop i 0 (omega arith)
+      ap (λ (x : Answer). getD (x .«path_nonzeros») i 0) is ∙ path-at 0 (entriesAt plusZero (columnsOf matrix n) n start source) stop i 0 (omega arith)
 
   pub at-most-half : (i : ℕ) → i < r .stage → 2 * getD (r .«path_nonzeros») (suc i) 0 ≤ getD (r .«path_nonzeros») i 0
   at-most-half i l =
       let e : r .stage ≡ stop = ap (λ (x : Answer). x .stage) is in
-      let f = falls i (λ j k. leads plusZero (columnsOf u n) n start source falls rule (fine .ruled) j (omega arith)) in
+      let f = falls i (λ j k. leads plusZero (columnsOf matrix n) n start source falls rule (fine .ruled) j (omega arith)) in
       omega (arith, f, entries-at i (omega arith), entries-at (suc i) (omega arith))
 
   pub strictly-fewer : (i : ℕ) → i < r .stage → getD (r .«path_nonzeros») (suc i) 0 < getD (r .«path_nonzeros») i 0
   strictly-fewer i l =
       let e : r .stage ≡ stop = ap (λ (x : Answer). x .stage) is in
-      omega (arith, at-most-half i l, leads plusZero (columnsOf u n) n start source falls rule (fine .ruled) i (omega arith), entries-at i (omega arith))
+      omega (arith, at-most-half i l, leads plusZero (columnsOf matrix n) n start source falls rule (fine .ruled) i (omega arith), entries-at i (omega arith))
 
   -- every stage has a nonzero
   start-positive : Positive binary64 (l1Of plusZero w)
@@ -109,15 +109,15 @@ module _ {rule : Rule} {source : SplitMix64} {u : List Float} {m n : ℕ} {w out
       positive-of-tests (sum-fits binary64 (λ j. absOf (at w j)) (length w)) (shown (finite (l1Of plusZero w)) (e .1))
       (shown (lt plusZero (l1Of plusZero w)) (e .0))
 
-  some-at : (i : ℕ) → i ≤ stop → 1 ≤ entriesAt plusZero (columnsOf u n) n start source i
+  some-at : (i : ℕ) → i ≤ stop → 1 ≤ entriesAt plusZero (columnsOf matrix n) n start source i
   unfolding stageOf
   some-at zero l =
       normalized-some w (λ j k. record { held = doubles j; ends = fine .valued .ends j k }) (omega (arith, fine .sized .given, fine .sized .few)) start-positive
   some-at (suc i) l =
-      let before = leads plusZero (columnsOf u n) n start source falls rule (fine .ruled) in
-      pass-some (columnsOf u n) n (stageOf plusZero (columnsOf u n) n start source i) (before i (omega arith))
-      (normal-stage (columnsOf u n) n start source normal (start-few doubles fine) i (λ j k. before j (omega arith)))
-      (rw (length-stage plusZero (columnsOf u n) n start source i) (start-few doubles fine))
+      let before = leads plusZero (columnsOf matrix n) n start source falls rule (fine .ruled) in
+      pass-some (columnsOf matrix n) n (stageOf plusZero (columnsOf matrix n) n start source i) (before i (omega arith))
+      (normal-stage (columnsOf matrix n) n start source normal (start-few doubles fine) i (λ j k. before j (omega arith)))
+      (rw (length-stage plusZero (columnsOf matrix n) n start source i) (start-few doubles fine))
 
   pub every-some : (i : ℕ) → i ≤ r .stage → 1 ≤ getD (r .«path_nonzeros») i 0
   every-some i l =

@@ -33,55 +33,55 @@ abbrev pub Doubles : List Float → Type 0
 Doubles w = (j : ℕ) → T (fits binary64 (at w j))
 
 -- what the rule asks for, of the stage at which it stops
-module _ (u : ℕ → ℕ → Float) (n : ℕ) (start : List Float) (source : SplitMix64) (normal : Normal binary64 (length start) (at start))
+module _ (matrix : ℕ → ℕ → Float) (n : ℕ) (start : List Float) (source : SplitMix64) (normal : Normal binary64 (length start) (at start))
     (few : length start ≤ 256) where
   pub kept-there : (rule : Rule) → ruleFault rule ≡ 0
-      → keeps rule (answerAt u n start source rule (stopOf plusZero u n start source rule)) ≡ true
-  kept-there (Target t) f = target-kept plusZero u n start source (falling u n start source normal few) t f
-  kept-there (Within a Absent) f = allowance-kept plusZero u n start source (falling u n start source normal few) a f (λ j l. normal .ends j l .ends)
-  kept-there (Within a (AtMost c)) f = cap-kept plusZero u n start source (falling u n start source normal few) a c f
+      → keeps rule (answerAt matrix n start source rule (stopOf plusZero matrix n start source rule)) ≡ true
+  kept-there (Target t) f = target-kept plusZero matrix n start source (falling matrix n start source normal few) t f
+  kept-there (Within a Absent) f = allowance-kept plusZero matrix n start source (falling matrix n start source normal few) a f (λ j l. normal .ends j l .ends)
+  kept-there (Within a (AtMost c)) f = cap-kept plusZero matrix n start source (falling matrix n start source normal few) a c f
 
 -- the weights that an accepted job starts from
-module _ {rule : Rule} {u : List Float} {m n : ℕ} {w : List Float} {output numbers indices : ℕ} (doubles : Doubles w)
-    (job : Accepted rule u m n w output numbers indices) where
+module _ {rule : Rule} {matrix : List Float} {m n : ℕ} {w : List Float} {output numbers indices : ℕ} (doubles : Doubles w)
+    (job : Accepted rule matrix m n w output numbers indices) where
   pub start-normal : Normal binary64 (length (normalized plusZero w)) (at (normalized plusZero w))
   start-normal = normal-start w doubles (job .valued .ends) (job .valued .total)
 
   pub start-few : length (normalized plusZero w) ≤ 256
   start-few = rw (length-normalized plusZero w) (omega (arith, job .sized .given, job .sized .few))
 
-pub demand-three : {first second : Rule} {source : SplitMix64} {u : List Float} {m n : ℕ} {w : List Float}
+pub demand-three : {first second : Rule} {source : SplitMix64} {matrix : List Float} {m n : ℕ} {w : List Float}
     {output numbers : List Float} {indices : List ℕ} {r : Answer} {output' numbers' : List Float} {indices' : List ℕ}
     {other others : List Float} {places : List ℕ} {s : Answer} {other' others' : List Float} {places' : List ℕ}
-    → Thinned first source u m n w output numbers indices r output' numbers' indices'
-    → Thinned second source u m n w other others places s other' others' places'
+    → Thinned first source matrix m n w output numbers indices r output' numbers' indices'
+    → Thinned second source matrix m n w other others places s other' others' places'
     → Double first → Double second → Doubles w → allows first second ≡ true → r .number ≡ 0 → s .number ≡ 0
-    → Later u n w source second r s output' other'
-demand-three {first} {second} {source} {u} {m} {n} {w} {output} {numbers} {indices} {r} {output'} {numbers'} {indices'} {other} {others} {places} {s}
+    → Later matrix n w source second r s output' other'
+demand-three {first} {second} {source} {matrix} {m} {n} {w} {output} {numbers} {indices} {r} {output'} {numbers'} {indices'} {other} {others} {places} {s}
     p q A B doubles more zero-first zero-second =
     let start : List Float = normalized plusZero w in
-    let c : ℕ → ℕ → Float = columnsOf u n in
+    let c : ℕ → ℕ → Float = columnsOf matrix n in
     let a = number-none p zero-first in
     let b = number-none q zero-second in
-    let x = accepted first (source .edition) u m n w (length output) (length numbers) (length indices) a in
-    let y = accepted second (source .edition) u m n w (length other) (length others) (length places) b in
+    let x = accepted first (source .edition) matrix m n w (length output) (length numbers) (length indices) a in
+    let y = accepted second (source .edition) matrix m n w (length other) (length others) (length places) b in
     let normal = start-normal doubles x in
     let few = start-few doubles x in
     let falls = falling c n start source normal few in
     let R = answer-stage p a in
     let S = answer-stage q b in
-    let i : r .stage ≡ stopFor u n w source first = ap (λ (z : Answer). z .stage) R in
-    let j : s .stage ≡ stopFor u n w source second = ap (λ (z : Answer). z .stage) S in
+    let i : r .stage ≡ stopFor matrix n w source first = ap (λ (z : Answer). z .stage) R in
+    let j : s .stage ≡ stopFor matrix n w source second = ap (λ (z : Answer). z .stage) S in
     let O = output-stage p zero-first in
     let Q = output-stage q zero-second in
-    let k : stopFor u n w source first ≤ stopFor u n w source second =
-    no-sooner plusZero c n start source first second (stopFor u n w source first) (stopFor u n w source second) A B more
+    let k : stopFor matrix n w source first ≤ stopFor matrix n w source second =
+    no-sooner plusZero c n start source first second (stopFor matrix n w source first) (stopFor matrix n w source second) A B more
     (stop-is-first plusZero c n start source falls first (x .ruled)) (stop-is-first plusZero c n start source falls second (y .ruled)) in
     record {
       later = rw (i, j) k;
       one = rw i O;
       other = rw j Q;
       among = rw (O, Q) (among-stops plusZero c n start source falls (signed-stage c n start source normal few)
-          second (stopFor u n w source first) (y .ruled) k);
+          second (stopFor matrix n w source first) (y .ruled) k);
       kept = rw S (kept-there c n start source normal few second (y .ruled));
     }

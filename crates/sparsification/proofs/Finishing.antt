@@ -35,27 +35,33 @@ use Rattle.sparsification.proofs.Accepting.{Sized}
 use Rattle.draw.specs.declared.SplitMix64.{SplitMix64}
 
 -- the answer for the end of a path is that for its stage
-answer-noted : (u : ℕ → ℕ → Float) (n : ℕ) (start : List Float) (source : SplitMix64) (rule : Rule) (k : ℕ) (p : Path)
-    → Noted u n start source k (passesTo plusZero u n start source rule k) p → answerFor p ≡ answerAt u n start source rule k
-answer-noted u n start source rule k p q =
-    rw (q .stage, q .nonzeros, q .change, q .directions, q .sweeps, path-at 0 (entriesAt plusZero u n start source) k k 0 (omega arith))
-    (rw (path-at plusZero (λ i. movedBy u n start (stageOf plusZero u n start source i)) k k nan (omega arith)))
+answer-noted : (matrix : ℕ → ℕ → Float) (n : ℕ) (start : List Float) (source : SplitMix64) (rule : Rule) (k : ℕ) (p : Path)
+    → Noted matrix n start source k (passesTo plusZero matrix n start source rule k) p → answerFor p ≡ answerAt matrix n start source rule k
+answer-noted matrix n start source rule k p q =
+    rw (q .stage, q .nonzeros, q .change, q .directions, q .sweeps, path-at 0 (entriesAt plusZero matrix n start source) k k 0 (omega arith))
+    (rw (path-at plusZero (λ i. movedBy matrix n start (stageOf plusZero matrix n start source i)) k k nan (omega arith)))
 
 -- a job from normalized weights: the stages were followed from a copy of them
-pub done-from : (u : ℕ → ℕ → Float) (n : ℕ) (start : List Float) (source : SplitMix64) (rule : Rule) {copy output' : List Float} {p : Path} → copy ≡ start
-    → Followed u n copy source rule p output' → (numbers numbers' : List Float) (indices indices' : List ℕ) (r : Answer)
+pub done-from : (matrix : ℕ → ℕ → Float) (n : ℕ) (start : List Float) (source : SplitMix64) (rule : Rule) {copy output' : List Float} {p : Path} → copy ≡ start
+    → Followed matrix n copy source rule p output' → (numbers numbers' : List Float) (indices indices' : List ℕ) (r : Answer)
     → r ≡ answerFor p → numbers' ≡ repeated plusZero (length numbers) → indices' ≡ repeated 0 (length indices)
-    → ThinnedFrom u n start source rule numbers indices r output' numbers' indices'
-done-from u n start source rule {copy} {output'} {p} copied follows numbers numbers' indices indices' r a N I =
-    let f : Followed u n start source rule p output' = rw copied at follows in
-    record { answers = a ∙ answer-noted u n start source rule (stopOf plusZero u n start source rule) p (f .path); writes = f .weights; floats = N; words = I }
+    → ThinnedFrom matrix n start source rule numbers indices r output' numbers' indices'
+done-from matrix n start source rule {copy} {output'} {p} copied follows numbers numbers' indices indices' r a N I =
+    let f : Followed matrix n start source rule p output' = rw copied at follows in
+    record {
+      answers = a ∙ answer-noted matrix n start source rule (stopOf plusZero matrix n start source rule) p
+          (f .path);
+      writes = f .weights;
+      floats = N;
+      words = I;
+    }
 
-module _ (rule : Rule) (source : SplitMix64) (u : List Float) (m n : ℕ) (w output numbers : List Float) (indices : List ℕ) where
+module _ (rule : Rule) (source : SplitMix64) (matrix : List Float) (m n : ℕ) (w output numbers : List Float) (indices : List ℕ) where
   -- refused
-  pub thinned-refused : (k : ℕ) (r : Answer) → k ≡ jobFault rule (source .edition) u m n w (length output) (length numbers) (length indices) → (k ≡ 0 → ⊥)
-      → r ≡ refusal k → Thinned rule source u m n w output numbers indices r output numbers indices
+  pub thinned-refused : (k : ℕ) (r : Answer) → k ≡ jobFault rule (source .edition) matrix m n w (length output) (length numbers) (length indices) → (k ≡ 0 → ⊥)
+      → r ≡ refusal k → Thinned rule source matrix m n w output numbers indices r output numbers indices
   thinned-refused k r e h a =
-      let z : eqb (jobFault rule (source .edition) u m n w (length output) (length numbers) (length indices)) 0 ≡ false = rw (← e) (ne-eqb k 0 h) in
+      let z : eqb (jobFault rule (source .edition) matrix m n w (length output) (length numbers) (length indices)) 0 ≡ false = rw (← e) (ne-eqb k 0 h) in
       record {
         answers = a ∙ ap refusal e ∙ sym (rw z);
         writes = sym (rw (a, ne-eqb k 0 h));
@@ -64,10 +70,10 @@ module _ (rule : Rule) (source : SplitMix64) (u : List Float) (m n : ℕ) (w out
       }
 
   -- accepted
-  pub thinned-from : jobFault rule (source .edition) u m n w (length output) (length numbers) (length indices) ≡ 0
+  pub thinned-from : jobFault rule (source .edition) matrix m n w (length output) (length numbers) (length indices) ≡ 0
       → (r : Answer) (output' numbers' : List Float) (indices' : List ℕ)
-      → ThinnedFrom (columnsOf u n) n (normalized plusZero w) source rule numbers indices r output' numbers' indices'
-      → Thinned rule source u m n w output numbers indices r output' numbers' indices'
+      → ThinnedFrom (columnsOf matrix n) n (normalized plusZero w) source rule numbers indices r output' numbers' indices'
+      → Thinned rule source matrix m n w output numbers indices r output' numbers' indices'
   unfolding answerOf
   thinned-from z r output' numbers' indices' p =
       record {
@@ -89,9 +95,9 @@ start-bounded w k normal e = all-hold (λ j. le (absOf (at w j)) one) (length w)
     (λ j l. ap (le (absOf (at w j))) unit-is ∙ holds (le (absOf (at w j)) unit) (normal-le normal j (rw e at l)))
 
 -- the sizes of an accepted job are those that a pass asks for
-pub ready-of : (u : List Float) (m n : ℕ) (w output numbers : List Float) (indices : List ℕ)
-    → Sized m n (length u) (length w) (length output) (length numbers) (length indices) → bounded one u ≡ true → Ready u n w numbers indices
-ready-of u m n w output numbers indices s small =
+pub ready-of : (matrix : List Float) (m n : ℕ) (w output numbers : List Float) (indices : List ℕ)
+    → Sized m n (length matrix) (length w) (length output) (length numbers) (length indices) → bounded one matrix ≡ true → Ready matrix n w numbers indices
+ready-of matrix m n w output numbers indices s small =
     let e : length w ≡ m = s .given in
     record {
       whole = rw e (s .whole);

@@ -24,36 +24,36 @@ use Rattle.sparsification.proofs.DemandThree.{Doubles, start-normal, st
 use Rattle.sparsification.proofs.Settled.{settled}
 use Rattle.draw.specs.declared.SplitMix64.{SplitMix64}
 
-module _ (u : ℕ → ℕ → Float) (n : ℕ) (start : List Float) (source : SplitMix64)
+module _ (matrix : ℕ → ℕ → Float) (n : ℕ) (start : List Float) (source : SplitMix64)
     (normal : Normal binary64 (length start) (at start)) (short : length start ≤ 256) (many : nonzeros start ≡ 100) where
-  before : entriesAt plusZero u n start source 0 ≡ 100
+  before : entriesAt plusZero matrix n start source 0 ≡ 100
   unfolding stageOf
   before = many
 
-  after : entriesAt plusZero u n start source 1 ≤ 49
+  after : entriesAt plusZero matrix n start source 1 ≤ 49
   unfolding stageOf
   after =
-      let first = stageOf plusZero u n start source 0 in
-      omega (arith, pass-at-most plusZero u n first (omega arith) (sum-sound u n first (omega arith) normal short), many)
+      let first = stageOf plusZero matrix n start source 0 in
+      omega (arith, pass-at-most plusZero matrix n first (omega arith) (sum-sound matrix n first (omega arith) normal short), many)
 
-  goes-on : stops plusZero u n start source (Target 99) 0 ≡ false
+  goes-on : stops plusZero matrix n start source (Target 99) 0 ≡ false
   goes-on = rw before
 
-  ends : stops plusZero u n start source (Target 99) 1 ≡ true
-  ends = rw (le-leb (entriesAt plusZero u n start source 1) 99 (omega (arith, after)))
+  ends : stops plusZero matrix n start source (Target 99) 1 ≡ true
+  ends = rw (le-leb (entriesAt plusZero matrix n start source 1) 99 (omega (arith, after)))
 
-  first-pass : FirstStop plusZero u n start source (Target 99) 1
+  first-pass : FirstStop plusZero matrix n start source (Target 99) 1
   first-pass = record { there = ends; before = λ i l. let e : i ≡ 0 = omega arith in rw e goes-on }
 
-pub at-most-49 : {source : SplitMix64} {u : List Float} {m n : ℕ} {w output numbers : List Float} {indices : List ℕ}
+pub at-most-49 : {source : SplitMix64} {matrix : List Float} {m n : ℕ} {w output numbers : List Float} {indices : List ℕ}
     {r : Answer} {output' numbers' : List Float} {indices' : List ℕ}
-    → Thinned (Target 99) source u m n w output numbers indices r output' numbers' indices' → Doubles w → r .number ≡ 0
+    → Thinned (Target 99) source matrix m n w output numbers indices r output' numbers' indices' → Doubles w → r .number ≡ 0
     → nonzeros (normalized plusZero w) ≡ 100
     → (r .stage ≡ 1) × (r .nonzeros ≤ 49)
-at-most-49 {source} {u} {m} {n} {w} {output} {numbers} {indices} {r} job doubles zero many =
+at-most-49 {source} {matrix} {m} {n} {w} {output} {numbers} {indices} {r} job doubles zero many =
     let f = number-none job zero in
-    let a = accepted (Target 99) (source .edition) u m n w (length output) (length numbers) (length indices) f in
+    let a = accepted (Target 99) (source .edition) matrix m n w (length output) (length numbers) (length indices) f in
     let normal = start-normal doubles a in
     let short = start-few doubles a in
-    let s = settled job doubles f 1 (first-pass (columnsOf u n) n (normalized plusZero w) source normal short many) .0 in
-    (ap (λ (z : Answer). z .stage) s, rw s (after (columnsOf u n) n (normalized plusZero w) source normal short many))
+    let s = settled job doubles f 1 (first-pass (columnsOf matrix n) n (normalized plusZero w) source normal short many) .0 in
+    (ap (λ (z : Answer). z .stage) s, rw s (after (columnsOf matrix n) n (normalized plusZero w) source normal short many))

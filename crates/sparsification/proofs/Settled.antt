@@ -24,28 +24,29 @@ use Rattle.sparsification.proofs.Accepting.{accepted, number-there, ans
 use Rattle.sparsification.proofs.DemandThree.{Doubles, start-normal, start-few}
 use Rattle.draw.specs.declared.SplitMix64.{SplitMix64}
 
-module _ (u : ℕ → ℕ → Float) (n : ℕ) (start : List Float) (source : SplitMix64) (normal : Normal binary64 (length start) (at start))
+module _ (matrix : ℕ → ℕ → Float) (n : ℕ) (start : List Float) (source : SplitMix64) (normal : Normal binary64 (length start) (at start))
     (short : length start ≤ 256) where
-  pub stage-alone : (i : ℕ) → Leads plusZero u n start source i → 2 ≤ entriesAt plusZero u n start source i → entriesAt plusZero u n start source i ≤ 4
-      → (k : ℕ) → Largest (stageOf plusZero u n start source i .w) k
-      → Alone (stageOf plusZero u n start source i .w) (stageOf plusZero u n start source (suc i) .w) k
+  pub stage-alone : (i : ℕ) → Leads plusZero matrix n start source i → 2 ≤ entriesAt plusZero matrix n start source i
+      → entriesAt plusZero matrix n start source i ≤ 4
+      → (k : ℕ) → Largest (stageOf plusZero matrix n start source i .w) k
+      → Alone (stageOf plusZero matrix n start source i .w) (stageOf plusZero matrix n start source (suc i) .w) k
   unfolding stageOf
   stage-alone i g some few =
-      largest-alone u n (stageOf plusZero u n start source i) some few (normal-stage u n start source normal short i g)
-      (rw (length-stage plusZero u n start source i) short)
+      largest-alone matrix n (stageOf plusZero matrix n start source i) some few (normal-stage matrix n start source normal short i g)
+      (rw (length-stage plusZero matrix n start source i) short)
 
-module _ {rule : Rule} {source : SplitMix64} {u : List Float} {m n : ℕ} {w output numbers : List Float} {indices : List ℕ}
+module _ {rule : Rule} {source : SplitMix64} {matrix : List Float} {m n : ℕ} {w output numbers : List Float} {indices : List ℕ}
     {r : Answer} {output' numbers' : List Float} {indices' : List ℕ}
-    (job : Thinned rule source u m n w output numbers indices r output' numbers' indices') (doubles : Doubles w)
-    (sound : jobFault rule (source .edition) u m n w (length output) (length numbers) (length indices) ≡ 0)
-    (k : ℕ) (stop : FirstStop plusZero (columnsOf u n) n (normalized plusZero w) source rule k) where
-  pub settled : (r ≡ answerAt (columnsOf u n) n (normalized plusZero w) source rule k)
-      × (output' ≡ stageOf plusZero (columnsOf u n) n (normalized plusZero w) source k .w)
+    (job : Thinned rule source matrix m n w output numbers indices r output' numbers' indices') (doubles : Doubles w)
+    (sound : jobFault rule (source .edition) matrix m n w (length output) (length numbers) (length indices) ≡ 0)
+    (k : ℕ) (stop : FirstStop plusZero (columnsOf matrix n) n (normalized plusZero w) source rule k) where
+  pub settled : (r ≡ answerAt (columnsOf matrix n) n (normalized plusZero w) source rule k)
+      × (output' ≡ stageOf plusZero (columnsOf matrix n) n (normalized plusZero w) source k .w)
   settled =
       let start : List Float = normalized plusZero w in
-      let a = accepted rule (source .edition) u m n w (length output) (length numbers) (length indices) sound in
-      let falls = falling (columnsOf u n) n start source (start-normal doubles a) (start-few doubles a) in
-      let e = only plusZero (columnsOf u n) n start source (stop-is-first plusZero (columnsOf u n) n start source falls rule (a .ruled)) stop in (
-        answer-stage job sound ∙ ap (answerAt (columnsOf u n) n start source rule) e,
-        output-stage job (number-there job sound) ∙ ap (λ (i : ℕ). stageOf plusZero (columnsOf u n) n start source i .w) e,
+      let a = accepted rule (source .edition) matrix m n w (length output) (length numbers) (length indices) sound in
+      let falls = falling (columnsOf matrix n) n start source (start-normal doubles a) (start-few doubles a) in
+      let e = only plusZero (columnsOf matrix n) n start source (stop-is-first plusZero (columnsOf matrix n) n start source falls rule (a .ruled)) stop in (
+        answer-stage job sound ∙ ap (answerAt (columnsOf matrix n) n start source rule) e,
+        output-stage job (number-there job sound) ∙ ap (λ (i : ℕ). stageOf plusZero (columnsOf matrix n) n start source i .w) e,
       )

@@ -19,16 +19,16 @@ pub record Same (r s : Answer) (output output' numbers numbers' : List Float) (i
   pub floats : numbers ≡ numbers'
   pub words : indices ≡ indices'
 
-pub sole : {rule : Rule} {source : SplitMix64} {u : List Float} {m n : ℕ} {w output numbers : List Float} {indices : List ℕ}
+pub sole : {rule : Rule} {source : SplitMix64} {matrix : List Float} {m n : ℕ} {w output numbers : List Float} {indices : List ℕ}
     {r s : Answer} {output' output'' numbers' numbers'' : List Float} {indices' indices'' : List ℕ}
-    → Thinned rule source u m n w output numbers indices r output' numbers' indices'
-    → Thinned rule source u m n w output numbers indices s output'' numbers'' indices''
+    → Thinned rule source matrix m n w output numbers indices r output' numbers' indices'
+    → Thinned rule source matrix m n w output numbers indices s output'' numbers'' indices''
     → Same r s output' output'' numbers' numbers'' indices' indices''
-sole {rule} {source} {u} {m} {n} {w} {output} {numbers} {indices} p q =
+sole {rule} {source} {matrix} {m} {n} {w} {output} {numbers} {indices} p q =
     let e = p .answers ∙ sym (q .answers) in
     record {
       answer = e;
-      written = p .writes ∙ ap (λ (x : Answer). pick (eqb (x .number) 0) (returned u n w source rule .w) output) e ∙ sym (q .writes);
+      written = p .writes ∙ ap (λ (x : Answer). pick (eqb (x .number) 0) (returned matrix n w source rule .w) output) e ∙ sym (q .writes);
       floats = p .floats ∙ ap (λ (x : Answer). pick (eqb (x .number) 0) (repeated plusZero (length numbers)) numbers) e ∙ sym (q .floats);
       words = p .words ∙ ap (λ (x : Answer). pick (eqb (x .number) 0) (repeated 0 (length indices)) indices) e ∙ sym (q .words);
     }

@@ -45,30 +45,32 @@ itself (inf s) h = absurd h
 itself (fin s m e) h =
     ap (λ (z : Float). ne z nought) (cancels s (m * up e * down e) (down e * down e)) ∙ nothing (down e * down e) (mul-pos (down-pos e) (down-pos e))
 
-pub unmoved : (u : ℕ → ℕ → Float) (w : List Float) (i k : ℕ) → ((j : ℕ) → j < k → T (finite (at w j))) → changeTo u w w i k ≡ plusZero
+pub unmoved : (matrix : ℕ → ℕ → Float) (w : List Float) (i k : ℕ) → ((j : ℕ) → j < k → T (finite (at w j))) → changeTo matrix w w i k ≡ plusZero
 unfolding changeTo
-unmoved u w i zero h = refl
-unmoved u w i (suc k) h =
-    rw (itself (at w k) (h k (omega arith))) (unmoved u w i k (λ j l. h j (omega arith)))
+unmoved matrix w i zero h = refl
+unmoved matrix w i (suc k) h =
+    rw (itself (at w k) (h k (omega arith))) (unmoved matrix w i k (λ j l. h j (omega arith)))
 
 largest-nothing : (v : ℕ → Float) → ((i : ℕ) → v i ≡ plusZero) → (k : ℕ) → maxAbsTo v k ≡ plusZero
 unfolding maxAbsTo largerOf ofBits isNan lt
 largest-nothing v h zero = refl
 largest-nothing v h (suc k) = rw (largest-nothing v h k, h k)
 
-pub no-change : (u : ℕ → ℕ → Float) (n : ℕ) (w : List Float) → ((j : ℕ) → j < length w → T (finite (at w j))) → maxChange u (length w) n w w ≡ plusZero
+pub no-change : (matrix : ℕ → ℕ → Float) (n : ℕ) (w : List Float) → ((j : ℕ) → j < length w → T (finite (at w j))) → maxChange matrix (length w) n w w
+    ≡ plusZero
 unfolding maxChange
-no-change u n w h = largest-nothing (λ i. changeTo u w w i (length w)) (λ i. unmoved u w i (length w) h) n
+no-change matrix n w h = largest-nothing (λ i. changeTo matrix w w i (length w)) (λ i. unmoved matrix w i (length w) h) n
 
 -- every change is a double
-change-fits : (u : ℕ → ℕ → Float) (v w : List Float) (i k : ℕ) → T (fits binary64 (changeTo u v w i k))
+change-fits : (matrix : ℕ → ℕ → Float) (v w : List Float) (i k : ℕ) → T (fits binary64 (changeTo matrix v w i k))
 unfolding changeTo ofBits
-change-fits u v w i zero = unfold fits in tt
-change-fits u v w i (suc k) = go (ne (sub binary64 (at v k) (at w k)) plusZero) (change-fits u v w i k)
+change-fits matrix v w i zero = unfold fits in tt
+change-fits matrix v w i (suc k) = go (ne (sub binary64 (at v k) (at w k)) plusZero) (change-fits matrix v w i k)
   where
-    go : (t : Bool) → T (fits binary64 (changeTo u v w i k))
-        → T (fits binary64 (pick t (add binary64 (changeTo u v w i k) (mul binary64 (u k i) (sub binary64 (at v k) (at w k)))) (changeTo u v w i k)))
-    go true h = add-fits binary64 (changeTo u v w i k) (mul binary64 (u k i) (sub binary64 (at v k) (at w k)))
+    go : (t : Bool) → T (fits binary64 (changeTo matrix v w i k))
+        → T (fits binary64 (pick t (add binary64 (changeTo matrix v w i k) (mul binary64 (matrix k i) (sub binary64 (at v k) (at w k))))
+        (changeTo matrix v w i k)))
+    go true h = add-fits binary64 (changeTo matrix v w i k) (mul binary64 (matrix k i) (sub binary64 (at v k) (at w k)))
     go false h = h
 
 largest-fits : (v : ℕ → Float) → ((i : ℕ) → T (fits binary64 (v i))) → (k : ℕ) → T (fits binary64 (maxAbsTo v k))
@@ -76,6 +78,6 @@ unfolding maxAbsTo ofBits
 largest-fits v h zero = unfold fits in tt
 largest-fits v h (suc k) = larger-fits binary64 (maxAbsTo v k) (absOf (v k)) (largest-fits v h k) (abs-fits binary64 (v k) (h k))
 
-pub moved-fits : (u : ℕ → ℕ → Float) (m n : ℕ) (v w : List Float) → T (fits binary64 (maxChange u m n v w))
+pub moved-fits : (matrix : ℕ → ℕ → Float) (m n : ℕ) (v w : List Float) → T (fits binary64 (maxChange matrix m n v w))
 unfolding maxChange
-moved-fits u m n v w = largest-fits (λ i. changeTo u v w i m) (λ i. change-fits u v w i m) n
+moved-fits matrix m n v w = largest-fits (λ i. changeTo matrix v w i m) (λ i. change-fits matrix v w i m) n

@@ -44,10 +44,10 @@ keeps (Within a Absent) r = le (r .change) a
 keeps (Within a (AtMost c)) r = leb (r .nonzeros) c
 
 -- two answers r and s with their outputs, the second's rule given
-pub record Later (u : List Float) (n : ℕ) (w : List Float) (source : SplitMix64) (rule : Rule) (r s : Answer)
+pub record Later (matrix : List Float) (n : ℕ) (w : List Float) (source : SplitMix64) (rule : Rule) (r s : Answer)
     (first second : List Float) : Type 0 where
   pub later : r .stage ≤ s .stage
-  pub one : first ≡ stageOf plusZero (columnsOf u n) n (normalized plusZero w) source (r .stage) .w
-  pub other : second ≡ stageOf plusZero (columnsOf u n) n (normalized plusZero w) source (s .stage) .w
+  pub one : first ≡ stageOf plusZero (columnsOf matrix n) n (normalized plusZero w) source (r .stage) .w
+  pub other : second ≡ stageOf plusZero (columnsOf matrix n) n (normalized plusZero w) source (s .stage) .w
   pub among : Among first second
   pub kept : keeps rule s ≡ true

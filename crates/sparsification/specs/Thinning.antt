@@ -29,10 +29,10 @@ answerFor p =
     }
 
 -- the answer for the stage at which the rule stops, which is written, and a scratch of zeros
-pub record ThinnedFrom (u : ℕ → ℕ → Float) (n : ℕ) (start : List Float) (source : SplitMix64) (rule : Rule) (numbers : List Float)
+pub record ThinnedFrom (matrix : ℕ → ℕ → Float) (n : ℕ) (start : List Float) (source : SplitMix64) (rule : Rule) (numbers : List Float)
     (indices : List ℕ)
     (r : Answer) (output' numbers' : List Float) (indices' : List ℕ) : Type 0 where
-  pub answers : r ≡ answerAt u n start source rule (stopOf plusZero u n start source rule)
-  pub writes : output' ≡ stageOf plusZero u n start source (stopOf plusZero u n start source rule) .w
+  pub answers : r ≡ answerAt matrix n start source rule (stopOf plusZero matrix n start source rule)
+  pub writes : output' ≡ stageOf plusZero matrix n start source (stopOf plusZero matrix n start source rule) .w
   pub floats : numbers' ≡ repeated plusZero (length numbers)
   pub words : indices' ≡ repeated 0 (length indices)

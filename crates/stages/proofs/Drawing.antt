@@ -58,8 +58,8 @@ further-moved {m} {k} {first} {second} {source} few before last =
 abbrev pub Drew : ℕ → SplitMix64 → Halved → Type 0
 Drew m source h = Moved m (h .directions) source (h .rng)
 
-module _ (z : Float) (u : ℕ → ℕ → Float) (n m : ℕ) (source : SplitMix64) where
-  once-drew : (ω : Float) (rest : List ℕ) (h : Halved) → length rest ≤ m → Drew m source h → Drew m source (halvedOnce z u n ω rest h)
+module _ (z : Float) (matrix : ℕ → ℕ → Float) (n m : ℕ) (source : SplitMix64) where
+  once-drew : (ω : Float) (rest : List ℕ) (h : Halved) → length rest ≤ m → Drew m source h → Drew m source (halvedOnce z matrix n ω rest h)
   unfolding halvedOnce
   once-drew ω rest h few before = go (eqb (length some) 0)
     where
@@ -67,39 +67,39 @@ module _ (z : Float) (u : ℕ → ℕ → Float) (n m : ℕ) (source : SplitMix6
       some = remaining (h .w) rest
 
       c : Colored
-      c = coloringOf z (scaledColumns u n (h .w) ω some) (length some) (suc n) (h .rng)
+      c = coloringOf z (scaledColumns matrix n (h .w) ω some) (length some) (suc n) (h .rng)
 
       go : (t : Bool) → Drew m source (pick t h (halvedBy h some c))
       go true = before
       go false =
           further-moved (let l = those-short (isOn (h .w)) rest (length rest) in omega (arith, l, few)) before
-          (moved z (scaledColumns u n (h .w) ω some) (length some) (suc n) (h .rng))
+          (moved z (scaledColumns matrix n (h .w) ω some) (length some) (suc n) (h .rng))
 
-  pass-drew : (h : Halved) → length (h .w) ≤ m → Drew m source h → Drew m source (passOf z u n h)
+  pass-drew : (h : Halved) → length (h .w) ≤ m → Drew m source h → Drew m source (passOf z matrix n h)
   unfolding passOf halvedTwice
   pass-drew h few before =
       let short : length (restOf (h .w)) ≤ m = omega (arith, length-rest (h .w), count-short (isOn (h .w)) (length (h .w)), few) in
-      once-drew (omegaOf (h .w)) (restOf (h .w)) (halvedOnce z u n (omegaOf (h .w)) (restOf (h .w)) h) short
+      once-drew (omegaOf (h .w)) (restOf (h .w)) (halvedOnce z matrix n (omegaOf (h .w)) (restOf (h .w)) h) short
       (once-drew (omegaOf (h .w)) (restOf (h .w)) h short before)
 
-module _ (u : ℕ → ℕ → Float) (n : ℕ) (start : List Float) (source : SplitMix64) where
+module _ (matrix : ℕ → ℕ → Float) (n : ℕ) (start : List Float) (source : SplitMix64) where
   -- where the generator stands at stage i
-  pub stage-drew : (i : ℕ) → Drew (length start) source (stageOf plusZero u n start source i)
+  pub stage-drew : (i : ℕ) → Drew (length start) source (stageOf plusZero matrix n start source i)
   unfolding stageOf afterDraws afterOutputs
   stage-drew zero = record { gaussians = 0; most = omega arith; stands = refl; outputs = refl }
   stage-drew (suc i) =
-      pass-drew plusZero u n (length start) source (stageOf plusZero u n start source i)
-      (rw (length-stage plusZero u n start source i) (le-refl (length start))) (stage-drew i)
+      pass-drew plusZero matrix n (length start) source (stageOf plusZero matrix n start source i)
+      (rw (length-stage plusZero matrix n start source i) (le-refl (length start))) (stage-drew i)
 
   -- so a job on m weights draws at most 8 m² Gaussians, and 16 m² outputs
-  module _ (falls : Falls plusZero u n start source) (few : length start ≤ 256) (rule : Rule) (accepted : ruleFault rule ≡ 0) where
-    abbrev drew : Drew (length start) source (stageOf plusZero u n start source
-        (passesTo plusZero u n start source rule (stopOf plusZero u n start source rule)))
-    drew = stage-drew (passesTo plusZero u n start source rule (stopOf plusZero u n start source rule))
+  module _ (falls : Falls plusZero matrix n start source) (few : length start ≤ 256) (rule : Rule) (accepted : ruleFault rule ≡ 0) where
+    abbrev drew : Drew (length start) source (stageOf plusZero matrix n start source
+        (passesTo plusZero matrix n start source rule (stopOf plusZero matrix n start source rule)))
+    drew = stage-drew (passesTo plusZero matrix n start source rule (stopOf plusZero matrix n start source rule))
 
     pub job-gaussians : drew .gaussians ≤ 8 * (length start * length start)
     job-gaussians =
-        omega (arith, drew .most, mul-le-mul (le-refl (length start)) (job-directions u n start source falls few rule accepted))
+        omega (arith, drew .most, mul-le-mul (le-refl (length start)) (job-directions matrix n start source falls few rule accepted))
 
     pub job-outputs : 2 * drew .gaussians ≤ 16 * (length start * length start)
     job-outputs = omega (arith, job-gaussians)

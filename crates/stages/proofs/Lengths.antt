@@ -26,11 +26,12 @@ unfolding halvedTo
 length-halved w rest x sigma zero = refl
 length-halved w rest x sigma (suc k) = length-set (halvedTo w rest x sigma k) (getD rest k 0) _ ∙ length-halved w rest x sigma k
 
-length-once : (z : Float) (u : ℕ → ℕ → Float) (n : ℕ) (omega : Float) (rest : List ℕ) (h : Halved) → length (halvedOnce z u n omega rest h .w) ≡ length (h .w)
+length-once : (z : Float) (matrix : ℕ → ℕ → Float) (n : ℕ) (omega : Float) (rest : List ℕ) (h : Halved) → length (halvedOnce z matrix n omega rest h .w)
+    ≡ length (h .w)
 unfolding halvedOnce
-length-once z u n omega rest h =
+length-once z matrix n omega rest h =
     let r : List ℕ = remaining (h .w) rest in
-    let c : Colored = coloringOf z (scaledColumns u n (h .w) omega r) (length r) (suc n) (h .rng) in
+    let c : Colored = coloringOf z (scaledColumns matrix n (h .w) omega r) (length r) (suc n) (h .rng) in
     go (eqb (length r) 0) (halvedBy h r c)
     (length-halved (h .w) r (c .x) (sigmaOf (c .x)) (length r))
   where
@@ -38,15 +39,15 @@ length-once z u n omega rest h =
     go true k e = refl
     go false k e = e
 
-pub length-pass : (z : Float) (u : ℕ → ℕ → Float) (n : ℕ) (h : Halved) → length (passOf z u n h .w) ≡ length (h .w)
+pub length-pass : (z : Float) (matrix : ℕ → ℕ → Float) (n : ℕ) (h : Halved) → length (passOf z matrix n h .w) ≡ length (h .w)
 unfolding passOf halvedTwice
-length-pass z u n h =
-    length-normalized z (halvedOnce z u n (omegaOf (h .w)) (restOf (h .w)) (halvedOnce z u n (omegaOf (h .w)) (restOf (h .w)) h) .w)
-    ∙ length-once z u n (omegaOf (h .w)) (restOf (h .w)) (halvedOnce z u n (omegaOf (h .w)) (restOf (h .w)) h)
-    ∙ length-once z u n (omegaOf (h .w)) (restOf (h .w)) h
+length-pass z matrix n h =
+    length-normalized z (halvedOnce z matrix n (omegaOf (h .w)) (restOf (h .w)) (halvedOnce z matrix n (omegaOf (h .w)) (restOf (h .w)) h) .w)
+    ∙ length-once z matrix n (omegaOf (h .w)) (restOf (h .w)) (halvedOnce z matrix n (omegaOf (h .w)) (restOf (h .w)) h)
+    ∙ length-once z matrix n (omegaOf (h .w)) (restOf (h .w)) h
 
-pub length-stage : (z : Float) (u : ℕ → ℕ → Float) (n : ℕ) (start : List Float) (source : SplitMix64) (i : ℕ)
-    → length (stageOf z u n start source i .w) ≡ length start
+pub length-stage : (z : Float) (matrix : ℕ → ℕ → Float) (n : ℕ) (start : List Float) (source : SplitMix64) (i : ℕ)
+    → length (stageOf z matrix n start source i .w) ≡ length start
 unfolding stageOf
-length-stage z u n start source zero = refl
-length-stage z u n start source (suc i) = length-pass z u n (stageOf z u n start source i) ∙ length-stage z u n start source i
+length-stage z matrix n start source zero = refl
+length-stage z matrix n start source (suc i) = length-pass z matrix n (stageOf z matrix n start source i) ∙ length-stage z matrix n start source i

@@ -46,37 +46,37 @@ among-signs v w each =
       under = λ j l o. ap (lt (at w j)) nought-is ∙ each j l o .under-too ∙ sym (ap (lt (at v j)) nought-is);
     }
 
-module _ (u : ℕ → ℕ → Float) (n : ℕ) (start : List Float) (source : SplitMix64) (normal : Normal binary64 (length start) (at start))
+module _ (matrix : ℕ → ℕ → Float) (n : ℕ) (start : List Float) (source : SplitMix64) (normal : Normal binary64 (length start) (at start))
     (few : length start ≤ 256) where
   abbrev stage : ℕ → Halved
-  stage = stageOf plusZero u n start source
+  stage = stageOf plusZero matrix n start source
 
   few-at : (i : ℕ) → length (stage i .w) ≤ 256
-  few-at i = rw (length-stage plusZero u n start source i) few
+  few-at i = rw (length-stage plusZero matrix n start source i) few
 
   -- every stage that a job may come to is normalised
-  pub normal-stage : (i : ℕ) → Leads plusZero u n start source i → Normal binary64 (length (stage i .w)) (at (stage i .w))
+  pub normal-stage : (i : ℕ) → Leads plusZero matrix n start source i → Normal binary64 (length (stage i .w)) (at (stage i .w))
   unfolding stageOf
   normal-stage zero g = normal
   normal-stage (suc i) g =
-      rw (length-stage plusZero u n start source (suc i) ∙ sym (length-stage plusZero u n start source i))
-      (pass-normal u n (stage i) (g i (omega arith)) (normal-stage i (λ j l. g j (omega arith))) (few-at i))
+      rw (length-stage plusZero matrix n start source (suc i) ∙ sym (length-stage plusZero matrix n start source i))
+      (pass-normal matrix n (stage i) (g i (omega arith)) (normal-stage i (λ j l. g j (omega arith))) (few-at i))
 
   -- so what the pass from it divides by is above 0 and finite
-  pub stage-sound : (i : ℕ) → Leads plusZero u n start source (suc i) → sound (sum plusZero u n (stage i)) ≡ true
-  stage-sound i g = sum-sound u n (stage i) (g i (omega arith)) (normal-stage i (λ j l. g j (omega arith))) (few-at i)
+  pub stage-sound : (i : ℕ) → Leads plusZero matrix n start source (suc i) → sound (sum plusZero matrix n (stage i)) ≡ true
+  stage-sound i g = sum-sound matrix n (stage i) (g i (omega arith)) (normal-stage i (λ j l. g j (omega arith))) (few-at i)
 
   -- and it leaves at most half
-  pub falling : Falls plusZero u n start source
+  pub falling : Falls plusZero matrix n start source
   unfolding stageOf
-  falling i g = pass-half plusZero u n (stage i) (g i (omega arith)) (stage-sound i g)
+  falling i g = pass-half plusZero matrix n (stage i) (g i (omega arith)) (stage-sound i g)
 
   -- signs are kept
-  pub signed-stage : (i : ℕ) → Leads plusZero u n start source (suc i) → Among (stage i .w) (stage (suc i) .w)
+  pub signed-stage : (i : ℕ) → Leads plusZero matrix n start source (suc i) → Among (stage i .w) (stage (suc i) .w)
   unfolding stageOf
   signed-stage i g =
       let each : (j : ℕ) → j < length (stage i .w) → isOn (stage (suc i) .w) j ≡ true → SameSign (at (stage i .w) j) (at (stage (suc i) .w) j) =
-      pass-same-sign u n (stage i) (g i (omega arith)) (normal-stage i (λ j l. g j (omega arith))) (few-at i) in
+      pass-same-sign matrix n (stage i) (g i (omega arith)) (normal-stage i (λ j l. g j (omega arith))) (few-at i) in
       among-signs (stage i .w) (stage (suc i) .w) each
 
 -- weights that are at most 1 in magnitude are normalised

@@ -11,16 +11,17 @@ use Rattle.rules.specs.declared.Rule.{Rule}
 use Rattle.draw.specs.declared.SplitMix64.{SplitMix64}
 
 -- the path to the stage k, and the counts of so many passes
-pub record Noted (u : ℕ → ℕ → Float) (n : ℕ) (start : List Float) (source : SplitMix64) (k passes : ℕ) (r : Path) : Type 0 where
+pub record Noted (matrix : ℕ → ℕ → Float) (n : ℕ) (start : List Float) (source : SplitMix64) (k passes : ℕ) (r : Path) : Type 0 where
   pub near : k ≤ 8
   pub stage : r .stage ≡ k
-  pub nonzeros : r .nonzeros ≡ pathNonzeros plusZero u n start source k
-  pub change : r .change ≡ pathChange plusZero u n start source k
-  pub directions : r .directions ≡ stageOf plusZero u n start source passes .directions
-  pub sweeps : r .sweeps ≡ stageOf plusZero u n start source passes .sweeps
+  pub nonzeros : r .nonzeros ≡ pathNonzeros plusZero matrix n start source k
+  pub change : r .change ≡ pathChange plusZero matrix n start source k
+  pub directions : r .directions ≡ stageOf plusZero matrix n start source passes .directions
+  pub sweeps : r .sweeps ≡ stageOf plusZero matrix n start source passes .sweeps
 
 -- the stage that was reached is the one at which the rule stops, after its passes, and w holds it
-pub record Followed (u : ℕ → ℕ → Float) (n : ℕ) (start : List Float) (source : SplitMix64) (rule : Rule)
+pub record Followed (matrix : ℕ → ℕ → Float) (n : ℕ) (start : List Float) (source : SplitMix64) (rule : Rule)
     (r : Path) (w : List Float) : Type 0 where
-  pub path : let k = stopOf plusZero u n start source rule in Noted u n start source k (passesTo plusZero u n start source rule k) r
-  pub weights : w ≡ stageOf plusZero u n start source (stopOf plusZero u n start source rule) .w
+  pub path : let k = stopOf plusZero matrix n start source rule in Noted matrix n start source k
+      (passesTo plusZero matrix n start source rule k) r
+  pub weights : w ≡ stageOf plusZero matrix n start source (stopOf plusZero matrix n start source rule) .w

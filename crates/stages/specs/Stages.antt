@@ -17,12 +17,12 @@ use Rattle.draw.specs.declared.SplitMix64.{SplitMix64}
 -- stage i from the normalized weights and the generator that a job starts with: weights, the generator after them, and what the passes
 -- to it drew and swept
 unfoldable pub stageOf : Float → (ℕ → ℕ → Float) → ℕ → List Float → SplitMix64 → ℕ → Halved
-stageOf z u n start source zero = record { w = start; rng = source; directions = 0; sweeps = 0 }
-stageOf z u n start source (suc i) = passOf z u n (stageOf z u n start source i)
+stageOf z matrix n start source zero = record { w = start; rng = source; directions = 0; sweeps = 0 }
+stageOf z matrix n start source (suc i) = passOf z matrix n (stageOf z matrix n start source i)
 
 -- how far the margins have moved from the normalized weights, at the worst row
 abbrev pub movedBy : (ℕ → ℕ → Float) → ℕ → List Float → Halved → Float
-movedBy u n start s = maxChange u (length start) n start (s .w)
+movedBy matrix n start s = maxChange matrix (length start) n start (s .w)
 
 -- What each stage from 0 to k has, in order, and zeros after it. Nine places: from 256 weights there are at most nine stages.
 abbrev pub pathOf : {A : Type 0} → A → (ℕ → A) → ℕ → List A
@@ -30,8 +30,8 @@ pathOf none has k = tabulate has (suc k) ++ repeated none (8 - k)
 
 -- the nonzeros of the stages from 0 to k
 abbrev pub pathNonzeros : Float → (ℕ → ℕ → Float) → ℕ → List Float → SplitMix64 → ℕ → List ℕ
-pathNonzeros z u n start source k = pathOf 0 (λ i. nonzeros (stageOf z u n start source i .w)) k
+pathNonzeros z matrix n start source k = pathOf 0 (λ i. nonzeros (stageOf z matrix n start source i .w)) k
 
 -- and how far each has moved
 abbrev pub pathChange : Float → (ℕ → ℕ → Float) → ℕ → List Float → SplitMix64 → ℕ → List Float
-pathChange z u n start source k = pathOf plusZero (λ i. movedBy u n start (stageOf z u n start source i)) k
+pathChange z matrix n start source k = pathOf plusZero (λ i. movedBy matrix n start (stageOf z matrix n start source i)) k

@@ -13,13 +13,13 @@ use Rattle.rules.specs.declared.Rule.{Rule}
 use Rattle.rules.specs.declared.Rule.the-variants.{Target, Within}
 use Rattle.draw.specs.declared.SplitMix64.{SplitMix64}
 
-module _ (z : Float) (u : ℕ → ℕ → Float) (n : ℕ) (start : List Float) (source : SplitMix64) where
+module _ (z : Float) (matrix : ℕ → ℕ → Float) (n : ℕ) (start : List Float) (source : SplitMix64) where
   abbrev pub entriesAt : ℕ → ℕ
-  entriesAt i = nonzeros (stageOf z u n start source i .w)
+  entriesAt i = nonzeros (stageOf z matrix n start source i .w)
 
   -- stage i measures above the allowance
   abbrev pub above : Float → ℕ → Bool
-  above allowance i = not (le (movedBy u n start (stageOf z u n start source i)) allowance)
+  above allowance i = not (le (movedBy matrix n start (stageOf z matrix n start source i)) allowance)
 
   -- Stage i is returned without a look at the next: it has at most so many nonzeros, or one, or it meets the cap and measures above.
   abbrev pub rests : Rule → ℕ → Bool

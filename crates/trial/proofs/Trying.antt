@@ -20,30 +20,31 @@ use Rattle.trial.specs.declared.Tried.{Tried}
 use Rattle.draw.specs.declared.SplitMix64.{SplitMix64}
 
 -- the matrix of a pass is one that a change is measured over
-pub lent-of : {u : List Float} {n : ℕ} {w numbers : List Float} {indices : List ℕ} (start : List Float) → Ready u n w numbers indices
-    → length start ≡ length w → Lent u (length start) n
+pub lent-of : {matrix : List Float} {n : ℕ} {w numbers : List Float} {indices : List ℕ} (start : List Float) → Ready matrix n w numbers indices
+    → length start ≡ length w → Lent matrix (length start) n
 lent-of start r e = record { whole = rw e (r .whole); few = rw e (r .few); short = r .short }
 
-module _ (u : ℕ → ℕ → Float) (n : ℕ) (start : List Float) (a : Float) (cap : Cap) (w : List Float) (tally : Counted) {next v : List Float} {after : Counted}
-    (copied : next ≡ w) (pass : halvesOf v after ≡ passOf plusZero u n (halvesOf next tally)) where
-  same-pass : halvesOf v after ≡ passOf plusZero u n (halvesOf w tally)
-  same-pass = pass ∙ ap (λ (x : List Float). passOf plusZero u n (halvesOf x tally)) copied
+module _ (matrix : ℕ → ℕ → Float) (n : ℕ) (start : List Float) (a : Float) (cap : Cap) (w : List Float)
+    (tally : Counted) {next v : List Float} {after : Counted}
+    (copied : next ≡ w) (pass : halvesOf v after ≡ passOf plusZero matrix n (halvesOf next tally)) where
+  same-pass : halvesOf v after ≡ passOf plusZero matrix n (halvesOf w tally)
+  same-pass = pass ∙ ap (λ (x : List Float). passOf plusZero matrix n (halvesOf x tally)) copied
 
-  gives : v ≡ passOf plusZero u n (halvesOf w tally) .w
+  gives : v ≡ passOf plusZero matrix n (halvesOf w tally) .w
   gives = ap (λ (h : Halved). h .w) same-pass
 
-  comes-to : halvesOf (passOf plusZero u n (halvesOf w tally) .w) after ≡ passOf plusZero u n (halvesOf w tally)
+  comes-to : halvesOf (passOf plusZero matrix n (halvesOf w tally) .w) after ≡ passOf plusZero matrix n (halvesOf w tally)
   comes-to = ap (λ (x : List Float). halvesOf x after) (sym gives) ∙ same-pass
 
-  module _ {x : Float} (measured : x ≡ maxChange u (length start) n start v) where
-    change-is : x ≡ changeAfter u n start w tally
-    change-is = measured ∙ ap (maxChange u (length start) n start) gives
+  module _ {x : Float} (measured : x ≡ maxChange matrix (length start) n start v) where
+    change-is : x ≡ changeAfter matrix n start w tally
+    change-is = measured ∙ ap (maxChange matrix (length start) n start) gives
 
-    after-is : aboveAfter u n start a w tally ≡ not (le x a)
+    after-is : aboveAfter matrix n start a w tally ≡ not (le x a)
     after-is = ap (λ (y : Float). not (le y a)) (sym change-is)
 
     pub left-tried : (not (le x a) && meets cap (nonzeros w)) ≡ true → (r : Tried) → r .tally ≡ after → r .change ≡ x → r .taken ≡ false
-        → r .more ≡ false → TriedOnce u n start a cap w tally r w
+        → r .more ≡ false → TriedOnce matrix n start a cap w tally r w
     left-tried ends r s d t m =
         record {
           pass = rw s comes-to;
@@ -54,7 +55,7 @@ module _ (u : ℕ → ℕ → Float) (n : ℕ) (start : List Float) (a : Float) 
         }
 
     pub taken-tried : (not (le x a) && meets cap (nonzeros w)) ≡ false → (w' : List Float) → w' ≡ v → (r : Tried) → r .tally ≡ after
-        → r .change ≡ x → r .taken ≡ true → r .more ≡ not (not (le x a) && meets cap (nonzeros w')) → TriedOnce u n start a cap w tally r w'
+        → r .change ≡ x → r .taken ≡ true → r .more ≡ not (not (le x a) && meets cap (nonzeros w')) → TriedOnce matrix n start a cap w tally r w'
     taken-tried goes w' e r s d t m =
         record {
           pass = rw s comes-to;

@@ -88,35 +88,36 @@ pub minus-start : Start minusZero
 minus-start = record { zero = minus-zero; divides = normalized-same }
 
 -- sums from such a zero and from +0.0, on two matrices that are alike once their turned rows are negated
-module _ {z : Float} (start : Start z) (turns : ℕ → Bool) (u u' : ℕ → ℕ → Float) (same : (j i : ℕ) → Facing (turns i) (u j i) (u' j i)) (n : ℕ) where
+module _ {z : Float} (start : Start z) (turns : ℕ → Bool) (matrix matrix' : ℕ → ℕ → Float)
+    (same : (j i : ℕ) → Facing (turns i) (matrix j i) (matrix' j i)) (n : ℕ) where
   -- the rows that are turned in a pass
   abbrev inPass : ℕ → Bool
   inPass i = pick (ltb i n) (turns i) false
 
   scaled-same : (w : List Float) (largest : Float) (rest : List ℕ) (p i : ℕ)
-      → Facing (inPass i) (scaledColumns u n w largest rest p i) (scaledColumns u' n w largest rest p i)
+      → Facing (inPass i) (scaledColumns matrix n w largest rest p i) (scaledColumns matrix' n w largest rest p i)
   scaled-same w largest rest p i = go (ltb i n)
     where
       go : (t : Bool) → Facing (pick t (turns i) false)
-          (pick t (mul binary64 (u (getD rest p 0) i) (scaleAt w largest rest p)) (absOf (scaleAt w largest rest p)))
-          (pick t (mul binary64 (u' (getD rest p 0) i) (scaleAt w largest rest p)) (absOf (scaleAt w largest rest p)))
+          (pick t (mul binary64 (matrix (getD rest p 0) i) (scaleAt w largest rest p)) (absOf (scaleAt w largest rest p)))
+          (pick t (mul binary64 (matrix' (getD rest p 0) i) (scaleAt w largest rest p)) (absOf (scaleAt w largest rest p)))
       go true = mul-facing binary64 (unlike-false (turns i)) (same (getD rest p 0) i) (facing (alike-refl _))
       go false = facing (alike-refl _)
 
-  once-same : (largest : Float) (rest : List ℕ) (h : Halved) → halvedOnce z u n largest rest h ≡ halvedOnce plusZero u' n largest rest h
+  once-same : (largest : Float) (rest : List ℕ) (h : Halved) → halvedOnce z matrix n largest rest h ≡ halvedOnce plusZero matrix' n largest rest h
   unfolding halvedOnce
   once-same largest rest h =
       let r : List ℕ = remaining (h .w) rest in
       ap (λ (c : Colored). pick (eqb (length r) 0) h (halvedBy h r c))
-      (coloring-same z (start .zero) inPass (scaledColumns u n (h .w) largest r) (scaledColumns u' n (h .w) largest r) (scaled-same (h .w) largest r)
+      (coloring-same z (start .zero) inPass (scaledColumns matrix n (h .w) largest r) (scaledColumns matrix' n (h .w) largest r) (scaled-same (h .w) largest r)
       (length r) (suc n) (h .rng))
 
-  twice-same : (h : Halved) → halvedTwice z u n h ≡ halvedTwice plusZero u' n h
+  twice-same : (h : Halved) → halvedTwice z matrix n h ≡ halvedTwice plusZero matrix' n h
   unfolding halvedTwice
   twice-same h =
-      once-same (omegaOf (h .w)) (restOf (h .w)) (halvedOnce z u n (omegaOf (h .w)) (restOf (h .w)) h)
-      ∙ ap (halvedOnce plusZero u' n (omegaOf (h .w)) (restOf (h .w))) (once-same (omegaOf (h .w)) (restOf (h .w)) h)
+      once-same (omegaOf (h .w)) (restOf (h .w)) (halvedOnce z matrix n (omegaOf (h .w)) (restOf (h .w)) h)
+      ∙ ap (halvedOnce plusZero matrix' n (omegaOf (h .w)) (restOf (h .w))) (once-same (omegaOf (h .w)) (restOf (h .w)) h)
 
-  pub pass-same : (h : Halved) → passOf z u n h ≡ passOf plusZero u' n h
+  pub pass-same : (h : Halved) → passOf z matrix n h ≡ passOf plusZero matrix' n h
   unfolding passOf
-  pass-same h = rw (twice-same h, start .divides (halvedTwice plusZero u' n h .w))
+  pass-same h = rw (twice-same h, start .divides (halvedTwice plusZero matrix' n h .w))

@@ -26,8 +26,8 @@ use Rattle.rules.specs.declared.Rule.the-variants.{Target, Within}
 
 -- ---- how far margins move: magnitudes, to the bit
 
-module _ (turns : ℕ → Bool) (u u' : ℕ → ℕ → Float) (same : (j i : ℕ) → Facing (turns i) (u j i) (u' j i)) where
-  change-facing : (before after : List Float) (i k : ℕ) → Facing (turns i) (changeTo u before after i k) (changeTo u' before after i k)
+module _ (turns : ℕ → Bool) (matrix matrix' : ℕ → ℕ → Float) (same : (j i : ℕ) → Facing (turns i) (matrix j i) (matrix' j i)) where
+  change-facing : (before after : List Float) (i k : ℕ) → Facing (turns i) (changeTo matrix before after i k) (changeTo matrix' before after i k)
   unfolding changeTo
   change-facing before after i zero = zero-facing (turns i) (alike-refl plusZero)
   change-facing before after i (suc k) =
@@ -36,67 +36,69 @@ module _ (turns : ℕ → Bool) (u u' : ℕ → ℕ → Float) (same : (j i : �
       (add-facing binary64 (change-facing before after i k) (mul-facing binary64 (unlike-false (turns i)) (same k i) (facing (alike-refl d))))
       (change-facing before after i k)
 
-  pub change-same : (m n : ℕ) (before after : List Float) → maxChange u m n before after ≡ maxChange u' m n before after
+  pub change-same : (m n : ℕ) (before after : List Float) → maxChange matrix m n before after ≡ maxChange matrix' m n before after
   unfolding maxChange
   change-same m n before after = maxAbs-same turns _ _ n (λ i. change-facing before after i m)
 
 -- ---- the stages, with sums from a zero z and from +0.0, on two matrices that are alike once their turned rows are negated
 
-module _ {z : Float} (zero-start : Start z) (turns : ℕ → Bool) (u u' : ℕ → ℕ → Float) (same : (j i : ℕ) → Facing (turns i) (u j i) (u' j i)) (n : ℕ)
+module _ {z : Float} (zero-start : Start z) (turns : ℕ → Bool) (matrix matrix' : ℕ → ℕ → Float)
+    (same : (j i : ℕ) → Facing (turns i) (matrix j i) (matrix' j i)) (n : ℕ)
     (start : List Float) (source : SplitMix64) where
-  pub stage-same : (i : ℕ) → stageOf z u n start source i ≡ stageOf plusZero u' n start source i
+  pub stage-same : (i : ℕ) → stageOf z matrix n start source i ≡ stageOf plusZero matrix' n start source i
   unfolding stageOf
   stage-same zero = refl
-  stage-same (suc i) = ap (passOf z u n) (stage-same i) ∙ pass-same zero-start turns u u' same n (stageOf plusZero u' n start source i)
+  stage-same (suc i) = ap (passOf z matrix n) (stage-same i) ∙ pass-same zero-start turns matrix matrix' same n (stageOf plusZero matrix' n start source i)
 
-  pub moved-same : (i : ℕ) → movedBy u n start (stageOf z u n start source i) ≡ movedBy u' n start (stageOf plusZero u' n start source i)
+  pub moved-same : (i : ℕ) → movedBy matrix n start (stageOf z matrix n start source i) ≡ movedBy matrix' n start (stageOf plusZero matrix' n start source i)
   moved-same i =
-      ap (movedBy u n start) (stage-same i) ∙ change-same turns u u' same (length start) n start (stageOf plusZero u' n start source i .w)
+      ap (movedBy matrix n start) (stage-same i) ∙ change-same turns matrix matrix' same (length start) n start (stageOf plusZero matrix' n start source i .w)
 
-  rests-same : (rule : Rule) (i : ℕ) → rests z u n start source rule i ≡ rests plusZero u' n start source rule i
+  rests-same : (rule : Rule) (i : ℕ) → rests z matrix n start source rule i ≡ rests plusZero matrix' n start source rule i
   rests-same (Target t) i = ap (λ (s : Halved). leb (nonzeros (s .w)) t) (stage-same i)
   rests-same (Within allowance cap) i =
       λ j. leb (nonzeros (stage-same i j .w)) 1 || (ltb 0 i && (not (le (moved-same i j) allowance) && meets cap (nonzeros (stage-same i j .w))))
 
-  exceeds-same : (rule : Rule) (i : ℕ) → exceeds z u n start source rule i ≡ exceeds plusZero u' n start source rule i
+  exceeds-same : (rule : Rule) (i : ℕ) → exceeds z matrix n start source rule i ≡ exceeds plusZero matrix' n start source rule i
   exceeds-same (Target t) i = refl
   exceeds-same (Within allowance cap) i = λ j. meets cap (nonzeros (stage-same i j .w)) && not (le (moved-same (suc i) j) allowance)
 
-  stops-same : (rule : Rule) (i : ℕ) → stops z u n start source rule i ≡ stops plusZero u' n start source rule i
+  stops-same : (rule : Rule) (i : ℕ) → stops z matrix n start source rule i ≡ stops plusZero matrix' n start source rule i
   stops-same rule i = λ j. rests-same rule i j || exceeds-same rule i j
 
-  first-same : (rule : Rule) (k i : ℕ) → firstStop z u n start source rule k i ≡ firstStop plusZero u' n start source rule k i
+  first-same : (rule : Rule) (k i : ℕ) → firstStop z matrix n start source rule k i ≡ firstStop plusZero matrix' n start source rule k i
   unfolding firstStop
   first-same rule zero i = refl
   first-same rule (suc k) i = λ j. pick (stops-same rule i j) i (first-same rule k (suc i) j)
 
-  pub stop-same : (rule : Rule) → stopOf z u n start source rule ≡ stopOf plusZero u' n start source rule
+  pub stop-same : (rule : Rule) → stopOf z matrix n start source rule ≡ stopOf plusZero matrix' n start source rule
   stop-same rule = first-same rule (length start) 0
 
-  pub passes-same : (rule : Rule) (i : ℕ) → passesTo z u n start source rule i ≡ passesTo plusZero u' n start source rule i
+  pub passes-same : (rule : Rule) (i : ℕ) → passesTo z matrix n start source rule i ≡ passesTo plusZero matrix' n start source rule i
   passes-same rule i = ap (λ (t : Bool). pick t i (suc i)) (rests-same rule i)
 
 -- ---- from the weights as they are given: sums from -0.0 and from +0.0, on one matrix
 
-module _ (u : ℕ → ℕ → Float) (n : ℕ) (w : List Float) (source : SplitMix64) where
-  itself : (j i : ℕ) → Facing false (u j i) (u j i)
-  itself j i = facing (alike-refl (u j i))
+module _ (matrix : ℕ → ℕ → Float) (n : ℕ) (w : List Float) (source : SplitMix64) where
+  itself : (j i : ℕ) → Facing false (matrix j i) (matrix j i)
+  itself j i = facing (alike-refl (matrix j i))
 
-  pub stages-alike : (i : ℕ) → stageOf minusZero u n (normalized minusZero w) source i ≡ stageOf plusZero u n (normalized plusZero w) source i
+  pub stages-alike : (i : ℕ) → stageOf minusZero matrix n (normalized minusZero w) source i ≡ stageOf plusZero matrix n (normalized plusZero w) source i
   stages-alike i =
-      stage-same minus-start (λ _. false) u u itself n (normalized minusZero w) source i
-      ∙ ap (λ (start : List Float). stageOf plusZero u n start source i) (minus-start .divides w)
+      stage-same minus-start (λ _. false) matrix matrix itself n (normalized minusZero w) source i
+      ∙ ap (λ (start : List Float). stageOf plusZero matrix n start source i) (minus-start .divides w)
 
-  pub stops-alike : (rule : Rule) → stopOf minusZero u n (normalized minusZero w) source rule ≡ stopOf plusZero u n (normalized plusZero w) source rule
+  pub stops-alike : (rule : Rule) → stopOf minusZero matrix n (normalized minusZero w) source rule
+      ≡ stopOf plusZero matrix n (normalized plusZero w) source rule
   stops-alike rule =
-      stop-same minus-start (λ _. false) u u itself n (normalized minusZero w) source rule
-      ∙ ap (λ (start : List Float). stopOf plusZero u n start source rule) (minus-start .divides w)
+      stop-same minus-start (λ _. false) matrix matrix itself n (normalized minusZero w) source rule
+      ∙ ap (λ (start : List Float). stopOf plusZero matrix n start source rule) (minus-start .divides w)
 
   pub passes-alike : (rule : Rule) (i : ℕ)
-      → passesTo minusZero u n (normalized minusZero w) source rule i ≡ passesTo plusZero u n (normalized plusZero w) source rule i
+      → passesTo minusZero matrix n (normalized minusZero w) source rule i ≡ passesTo plusZero matrix n (normalized plusZero w) source rule i
   passes-alike rule i =
-      passes-same minus-start (λ _. false) u u itself n (normalized minusZero w) source rule i
-      ∙ ap (λ (start : List Float). passesTo plusZero u n start source rule i) (minus-start .divides w)
+      passes-same minus-start (λ _. false) matrix matrix itself n (normalized minusZero w) source rule i
+      ∙ ap (λ (start : List Float). passesTo plusZero matrix n start source rule i) (minus-start .divides w)
 
 -- and the number 9 is the same
 pub nine-alike : (w : List Float) → _≡_ {A = ℕ} (pick (sound (l1Of minusZero w)) 0 9) (pick (sound (l1Of plusZero w)) 0 9)

@@ -55,23 +55,23 @@ module _ (z : Float) (a : ℕ → ℕ → Float) (l n : ℕ) (w : Walk) (fits : 
       (steppedAlong z a l n w (directed z (w .basis) (w .free) (drawn (w .rng) l))) fits (along-most _)
 
 -- what holds between two steps
-pub record Going (a : ℕ → ℕ → Float) (l : ℕ) (num₀ : List Float) (blocked₀ : List ℕ) (x₀ : List Float) (free₀ : List ℕ) (g₀ : List Float) (start : Walk)
-    (num : List Float) (blocked : List ℕ) (x : List Float) (free : List ℕ) (g : List Float) (count frozen : ℕ)
+pub record Going (a : ℕ → ℕ → Float) (l : ℕ) (numbers₀ : List Float) (blocked₀ : List ℕ) (x₀ : List Float) (free₀ : List ℕ) (g₀ : List Float) (start : Walk)
+    (numbers : List Float) (blocked : List ℕ) (x : List Float) (free : List ℕ) (g : List Float) (count frozen : ℕ)
     (rng : SplitMix64) (directions : ℕ) : Type 0 where
-  pub roomy : Roomy l num blocked x free count
-  pub nums : length num ≡ length num₀
+  pub roomy : Roomy l numbers blocked x free count
+  pub nums : length numbers ≡ length numbers₀
   pub rows : length blocked ≡ length blocked₀
   pub xs : length x ≡ length x₀
   pub frees : length free ≡ length free₀
   pub gs : length g ≡ length g₀
   pub few : frozen + freeOnes free ≤ l
   pub drawn-few : directions ≤ frozen
-  pub same : courseFrom plusZero a l (length blocked₀) (going plusZero a l (length blocked₀) directions (held num blocked x free count frozen rng))
+  pub same : courseFrom plusZero a l (length blocked₀) (going plusZero a l (length blocked₀) directions (held numbers blocked x free count frozen rng))
       ≡ courseOf plusZero a l (length blocked₀) start
 
-module _ (a : ℕ → ℕ → Float) (l : ℕ) (num₀ : List Float) (blocked₀ : List ℕ) (x₀ : List Float) (free₀ : List ℕ) (g₀ : List Float) where
-  pub going-start : (count frozen : ℕ) (rng : SplitMix64) → Roomy l num₀ blocked₀ x₀ free₀ count → frozen ≡ 0
-      → Going a l num₀ blocked₀ x₀ free₀ g₀ (held num₀ blocked₀ x₀ free₀ count frozen rng) num₀ blocked₀ x₀ free₀ g₀ count frozen rng 0
+module _ (a : ℕ → ℕ → Float) (l : ℕ) (numbers₀ : List Float) (blocked₀ : List ℕ) (x₀ : List Float) (free₀ : List ℕ) (g₀ : List Float) where
+  pub going-start : (count frozen : ℕ) (rng : SplitMix64) → Roomy l numbers₀ blocked₀ x₀ free₀ count → frozen ≡ 0
+      → Going a l numbers₀ blocked₀ x₀ free₀ g₀ (held numbers₀ blocked₀ x₀ free₀ count frozen rng) numbers₀ blocked₀ x₀ free₀ g₀ count frozen rng 0
   going-start count frozen rng r e =
       record {
         roomy = r;
@@ -85,21 +85,21 @@ module _ (a : ℕ → ℕ → Float) (l : ℕ) (num₀ : List Float) (blocked₀
         same = refl;
       }
 
-  module _ (start : Walk) (num : List Float) (blocked : List ℕ) (x : List Float) (free : List ℕ) (g : List Float) (count frozen : ℕ)
+  module _ (start : Walk) (numbers : List Float) (blocked : List ℕ) (x : List Float) (free : List ℕ) (g : List Float) (count frozen : ℕ)
       (rng : SplitMix64) (directions : ℕ)
-      (i : Going a l num₀ blocked₀ x₀ free₀ g₀ start num blocked x free g count frozen rng directions) where
+      (i : Going a l numbers₀ blocked₀ x₀ free₀ g₀ start numbers blocked x free g count frozen rng directions) where
     abbrev n : ℕ
     n = length blocked₀
 
     abbrev now-at : Walk
-    now-at = held num blocked x free count frozen rng
+    now-at = held numbers blocked x free count frozen rng
 
     -- the number of vectors is the count
     counted : length (now-at .basis) ≡ count
-    counted = length-vectors (length x) count (drop (length blocked + length blocked + length blocked) num)
+    counted = length-vectors (length x) count (drop (length blocked + length blocked + length blocked) numbers)
 
     pub going-full : l ≤ count → (r : Phased) → r .at .count ≡ count → r .at .frozen ≡ frozen → r .at .rng ≡ rng → r .directions ≡ directions
-        → CourseHolds num blocked x free r (courseOf plusZero a l n start)
+        → CourseHolds numbers blocked x free r (courseOf plusZero a l n start)
     going-full h r ec ef er ed =
         let e : going plusZero a l n directions now-at ≡ courseOf plusZero a l n start =
         sym (phase-full plusZero a l n directions now-at (omega (arith, counted))) ∙ i .same in
@@ -108,18 +108,19 @@ module _ (a : ℕ → ℕ → Float) (l : ℕ) (num₀ : List Float) (blocked₀
           directions = ed ∙ ap (λ (c : Course). c .directions) e;
         }
 
-    module _ (num' : List Float) (blocked' : List ℕ) (x' : List Float) (free' : List ℕ) (s : Went) (short : count < l)
-        (given : StepHolds num' blocked' x' free' s (stepOf plusZero a l (length blocked) now-at)) where
+    module _ (numbers' : List Float) (blocked' : List ℕ) (x' : List Float) (free' : List ℕ) (s : Went) (short : count < l)
+        (given : StepHolds numbers' blocked' x' free' s (stepOf plusZero a l (length blocked) now-at)) where
       abbrev next-at : Walk
-      next-at = held num' blocked' x' free' (s .at .count) (s .at .frozen) (s .at .rng)
+      next-at = held numbers' blocked' x' free' (s .at .count) (s .at .frozen) (s .at .rng)
 
       abbrev one : Stepped
       one = stepOf plusZero a l n now-at
 
-      here : StepHolds num' blocked' x' free' s one
-      here = subst (λ (k : ℕ). StepHolds num' blocked' x' free' s (stepOf plusZero a l k now-at)) (i .rows) given
+      here : StepHolds numbers' blocked' x' free' s one
+      here = subst (λ (k : ℕ). StepHolds numbers' blocked' x' free' s (stepOf plusZero a l k now-at)) (i .rows) given
 
-      pub going-last : s .more ≡ false → CourseHolds num' blocked' x' free' (record { at = s .at; directions = directions + 1 }) (courseOf plusZero a l n start)
+      pub going-last : s .more ≡ false → CourseHolds numbers' blocked' x' free' (record { at = s .at; directions = directions + 1 })
+          (courseOf plusZero a l n start)
       going-last e =
           let last : next plusZero a l n (going plusZero a l n directions now-at) ≡ courseOf plusZero a l n start =
           sym (phase-last plusZero a l n directions now-at (omega (arith, counted)) (sym (here .more) ∙ e)) ∙ i .same in
@@ -140,16 +141,16 @@ module _ (a : ℕ → ℕ → Float) (l : ℕ) (num₀ : List Float) (blocked₀
       fewer-free e = omega (arith, together, more-frozen e)
 
       pub going-on : (g' : List Float) → s .more ≡ true
-          → length num' ≡ length num → length blocked' ≡ length blocked → length x' ≡ length x → length free' ≡ length free → length g' ≡ length g
-          → Going a l num₀ blocked₀ x₀ free₀ g₀ start num' blocked' x' free' g' (s .at .count) (s .at .frozen) (s .at .rng) (directions + 1)
+          → length numbers' ≡ length numbers → length blocked' ≡ length blocked → length x' ≡ length x → length free' ≡ length free → length g' ≡ length g
+          → Going a l numbers₀ blocked₀ x₀ free₀ g₀ start numbers' blocked' x' free' g' (s .at .count) (s .at .frozen) (s .at .rng) (directions + 1)
       going-on g' e ln lb lx lf lg =
-          let q : Roomy l num blocked x free count = i .roomy in
+          let q : Roomy l numbers blocked x free count = i .roomy in
           record {
             roomy = record {
               room = omega (arith, ln, lb, q .room);
               wide = lx ∙ q .wide;
               marks = lf ∙ q .marks;
-              most = count-most l (s .at .count) num' blocked' x' free' (s .at .frozen) (s .at .rng) (one .walk) (here .walk)
+              most = count-most l (s .at .count) numbers' blocked' x' free' (s .at .frozen) (s .at .rng) (one .walk) (here .walk)
                   (step-most plusZero a l n now-at (omega (arith, counted)));
             };
             nums = ln ∙ i .nums;
@@ -171,25 +172,25 @@ unfolding blockTo
 block-most z a l rows zero = omega arith
 block-most z a l rows (suc k) = inserted-most z l (blockTo z a l rows k) (rowOf a l (getD rows k 0)) (block-most z a l rows k)
 
-module _ (a : ℕ → ℕ → Float) (l : ℕ) (num : List Float) (blocked : List ℕ) (x : List Float) (free : List ℕ) (num' : List Float)
+module _ (a : ℕ → ℕ → Float) (l : ℕ) (numbers : List Float) (blocked : List ℕ) (x : List Float) (free : List ℕ) (numbers' : List Float)
     (blocked' free' : List ℕ) (count : ℕ)
-    (room : Roomy l num blocked x free 0) (b : Begun a l num (length blocked) count num' blocked') (ln : length num' ≡ length num)
+    (room : Roomy l numbers blocked x free 0) (b : Begun a l numbers (length blocked) count numbers' blocked') (ln : length numbers' ≡ length numbers)
     (lb : length blocked' ≡ length blocked)
     (ef : free' ≡ repeated 1 (length free)) where
   abbrev rows-of : ℕ
   rows-of = length blocked
 
-  pub start-held : (rng : SplitMix64) → held num' blocked' x free' count 0 rng ≡ begun plusZero a l rows-of x (axIn rows-of num) rng
+  pub start-held : (rng : SplitMix64) → held numbers' blocked' x free' count 0 rng ≡ begun plusZero a l rows-of x (axIn rows-of numbers) rng
   unfolding begun
   start-held rng =
-      walk-path refl (ef ∙ ap (repeated 1) (room .marks)) refl (ap (λ (k : ℕ). axIn k num') lb ∙ b .ax) (b .marks)
-      (ap₂ (λ (k m : ℕ). basisIn k m count num') lb (room .wide) ∙ b .basis) refl
+      walk-path refl (ef ∙ ap (repeated 1) (room .marks)) refl (ap (λ (k : ℕ). axIn k numbers') lb ∙ b .ax) (b .marks)
+      (ap₂ (λ (k m : ℕ). basisIn k m count numbers') lb (room .wide) ∙ b .basis) refl
 
-  pub start-room : Roomy l num' blocked' x free' count
+  pub start-room : Roomy l numbers' blocked' x free' count
   start-room =
-      let first : List ℕ = firstRows plusZero a l rows-of (axIn rows-of num) in
+      let first : List ℕ = firstRows plusZero a l rows-of (axIn rows-of numbers) in
       let c : count ≡ length (blockTo plusZero a l first (length first)) =
-      sym (length-vectors l count (drop (rows-of + rows-of + rows-of) num')) ∙ ap length (b .basis) in
+      sym (length-vectors l count (drop (rows-of + rows-of + rows-of) numbers')) ∙ ap length (b .basis) in
       record {
         room = omega (arith, ln, lb, room .room);
         wide = room .wide;
@@ -197,8 +198,8 @@ module _ (a : ℕ → ℕ → Float) (l : ℕ) (num : List Float) (blocked : Lis
         most = omega (arith, c, block-most plusZero a l first (length first));
       }
 
-  pub phase-is : {num'' : List Float} {blocked'' : List ℕ} {x'' : List Float} {free'' : List ℕ} {r : Phased} (rng : SplitMix64)
-      → CourseHolds num'' blocked'' x'' free'' r (courseOf plusZero a l (length blocked') (held num' blocked' x free' count 0 rng))
-      → CourseHolds num'' blocked'' x'' free'' r (courseOf plusZero a l rows-of (begun plusZero a l rows-of x (axIn rows-of num) rng))
-  phase-is {num''} {blocked''} {x''} {free''} {r} rng h =
-      subst (CourseHolds num'' blocked'' x'' free'' r) (ap₂ (courseOf plusZero a l) lb (start-held rng)) h
+  pub phase-is : {numbers'' : List Float} {blocked'' : List ℕ} {x'' : List Float} {free'' : List ℕ} {r : Phased} (rng : SplitMix64)
+      → CourseHolds numbers'' blocked'' x'' free'' r (courseOf plusZero a l (length blocked') (held numbers' blocked' x free' count 0 rng))
+      → CourseHolds numbers'' blocked'' x'' free'' r (courseOf plusZero a l rows-of (begun plusZero a l rows-of x (axIn rows-of numbers) rng))
+  phase-is {numbers''} {blocked''} {x''} {free''} {r} rng h =
+      subst (CourseHolds numbers'' blocked'' x'' free'' r) (ap₂ (courseOf plusZero a l) lb (start-held rng)) h

@@ -9,11 +9,11 @@ use Rattle.walk.specs.declared.Went.{Went}
 use Rattle.walk.specs.declared.Phased.{Phased}
 
 -- the scratch and the answer s of a step hold o
-pub record StepHolds (num : List Float) (blocked : List ℕ) (x : List Float) (free : List ℕ) (s : Went) (o : Stepped) : Type 0 where
+pub record StepHolds (numbers : List Float) (blocked : List ℕ) (x : List Float) (free : List ℕ) (s : Went) (o : Stepped) : Type 0 where
   pub more : s .more ≡ o .more
-  pub walk : held num blocked x free (s .at .count) (s .at .frozen) (s .at .rng) ≡ o .walk
+  pub walk : held numbers blocked x free (s .at .count) (s .at .frozen) (s .at .rng) ≡ o .walk
 
 -- the scratch and the answer r of a phase hold how it went
-pub record CourseHolds (num : List Float) (blocked : List ℕ) (x : List Float) (free : List ℕ) (r : Phased) (c : Course) : Type 0 where
-  pub walk : held num blocked x free (r .at .count) (r .at .frozen) (r .at .rng) ≡ c .walk
+pub record CourseHolds (numbers : List Float) (blocked : List ℕ) (x : List Float) (free : List ℕ) (r : Phased) (c : Course) : Type 0 where
+  pub walk : held numbers blocked x free (r .at .count) (r .at .frozen) (r .at .rng) ≡ c .walk
   pub directions : r .directions ≡ c .directions

@@ -39,23 +39,23 @@ pub struct Phased {
 
 // One step. g is room for a direction and then for a row.
 fn step(
-    num: &mut [f64],
+    numbers: &mut [f64],
     blocked: &mut [u32],
     x: &mut [f64],
     free: &mut [u32],
-    u: &[f64],
+    matrix: &[f64],
     n: usize,
     cols: &[u32],
     scale: &[f64],
     from: Stand,
     g: &mut [f64],
 ) -> Went
-    requires { ⌜ Chosen (now u) n (now cols) (now scale) (length (now blocked)) × Roomy (length (now cols)) (now num)
+    requires { ⌜ Chosen (now matrix) n (now cols) (now scale) (length (now blocked)) × Roomy (length (now cols)) (now numbers)
         (now blocked) (now x) (now free) (from .count) × (length (now g) ≡ length (now cols)) × (from .frozen ≤ 256) ⌝ }
-    ensures { λ r. ⌜ StepHolds (now (num .exit)) (now (blocked .exit)) (now (x .exit)) (now (free .exit)) r
-        (stepOf plusZero (entryOf (now (u .entry)) n (now (cols .entry)) (now (scale .entry)))
+    ensures { λ r. ⌜ StepHolds (now (numbers .exit)) (now (blocked .exit)) (now (x .exit)) (now (free .exit)) r
+        (stepOf plusZero (entryOf (now (matrix .entry)) n (now (cols .entry)) (now (scale .entry)))
         (length (now (cols .entry))) (length (now (blocked .entry)))
-        (held (now (num .entry)) (now (blocked .entry)) (now (x .entry)) (now (free .entry)) (from .count)
+        (held (now (numbers .entry)) (now (blocked .entry)) (now (x .entry)) (now (free .entry)) (from .count)
         (from .frozen) (from .rng))) ⌝ }
 {
     let l = cols.len();
@@ -65,25 +65,25 @@ fn step(
     let base = rows + rows + rows;
     let end = base + count * l;
     let rng = draw_into(&mut g[..], from.rng);
-    if direct(&num[base..end], count, l, &free[..], &mut g[..]) {
+    if direct(&numbers[base..end], count, l, &free[..], &mut g[..]) {
         return Went {
             more: false,
             at: Stand { count, frozen, rng },
         };
     }
-    if !advance(num, rows, x, &free[..], u, n, cols, scale, g) {
+    if !advance(numbers, rows, x, &free[..], matrix, n, cols, scale, g) {
         return Went {
             more: false,
             at: Stand { count, frozen, rng },
         };
     }
     let f = freeze(
-        num,
+        numbers,
         Frozen { count, frozen },
         blocked,
         x,
         free,
-        u,
+        matrix,
         n,
         cols,
         scale,
@@ -101,29 +101,40 @@ fn step(
 
 // Steps until one ends the phase or the basis is full.
 fn steps(
-    num: &mut [f64],
+    numbers: &mut [f64],
     blocked: &mut [u32],
     x: &mut [f64],
     free: &mut [u32],
-    u: &[f64],
+    matrix: &[f64],
     n: usize,
     cols: &[u32],
     scale: &[f64],
     from: Stand,
     g: &mut [f64],
 ) -> Phased
-    requires { ⌜ Chosen (now u) n (now cols) (now scale) (length (now blocked)) × Roomy (length (now cols)) (now num)
+    requires { ⌜ Chosen (now matrix) n (now cols) (now scale) (length (now blocked)) × Roomy (length (now cols)) (now numbers)
         (now blocked) (now x) (now free) (from .count) × (length (now g) ≡ length (now cols)) × (from .frozen ≡ 0) ⌝ }
-    ensures { λ r. ⌜ CourseHolds (now (num .exit)) (now (blocked .exit)) (now (x .exit)) (now (free .exit)) r
-        (courseOf plusZero (entryOf (now (u .entry)) n (now (cols .entry)) (now (scale .entry)))
+    ensures { λ r. ⌜ CourseHolds (now (numbers .exit)) (now (blocked .exit)) (now (x .exit)) (now (free .exit)) r
+        (courseOf plusZero (entryOf (now (matrix .entry)) n (now (cols .entry)) (now (scale .entry)))
         (length (now (cols .entry))) (length (now (blocked .entry)))
-        (held (now (num .entry)) (now (blocked .entry)) (now (x .entry)) (now (free .entry)) (from .count)
+        (held (now (numbers .entry)) (now (blocked .entry)) (now (x .entry)) (now (free .entry)) (from .count)
         (from .frozen) (from .rng))) ⌝ }
 {
     let mut at = from;
     let mut directions = 0usize;
     while at.count < cols.len() {
-        let s = step(num, blocked, x, free, u, n, cols, scale, at, &mut g[..]);
+        let s = step(
+            numbers,
+            blocked,
+            x,
+            free,
+            matrix,
+            n,
+            cols,
+            scale,
+            at,
+            &mut g[..],
+        );
         let next = s.at;
         at = next;
         let drawn = directions + 1;
@@ -140,34 +151,34 @@ fn steps(
 
 // A whole phase, from x and A x; x and free are over its columns, and g is room for as many.
 pub fn phase(
-    num: &mut [f64],
+    numbers: &mut [f64],
     blocked: &mut [u32],
     x: &mut [f64],
     free: &mut [u32],
-    u: &[f64],
+    matrix: &[f64],
     n: usize,
     cols: &[u32],
     scale: &[f64],
     rng: SplitMix64,
     g: &mut [f64],
 ) -> Phased
-    requires { ⌜ Chosen (now u) n (now cols) (now scale) (length (now blocked)) × Roomy (length (now cols)) (now num)
+    requires { ⌜ Chosen (now matrix) n (now cols) (now scale) (length (now blocked)) × Roomy (length (now cols)) (now numbers)
         (now blocked) (now x) (now free) 0 × (length (now g) ≡ length (now cols)) ⌝ }
-    ensures { λ r. ⌜ CourseHolds (now (num .exit)) (now (blocked .exit)) (now (x .exit)) (now (free .exit)) r
-        (courseOf plusZero (entryOf (now (u .entry)) n (now (cols .entry)) (now (scale .entry)))
+    ensures { λ r. ⌜ CourseHolds (now (numbers .exit)) (now (blocked .exit)) (now (x .exit)) (now (free .exit)) r
+        (courseOf plusZero (entryOf (now (matrix .entry)) n (now (cols .entry)) (now (scale .entry)))
         (length (now (cols .entry))) (length (now (blocked .entry)))
-        (begun plusZero (entryOf (now (u .entry)) n (now (cols .entry)) (now (scale .entry)))
+        (begun plusZero (entryOf (now (matrix .entry)) n (now (cols .entry)) (now (scale .entry)))
         (length (now (cols .entry))) (length (now (blocked .entry))) (now (x .entry))
-        (axIn (length (now (blocked .entry))) (now (num .entry))) rng)) ⌝ }
+        (axIn (length (now (blocked .entry))) (now (numbers .entry))) rng)) ⌝ }
 {
     fill_words(&mut free[..], 1);
-    let count = begin(num, blocked, u, n, cols, scale, &mut g[..]);
+    let count = begin(numbers, blocked, matrix, n, cols, scale, &mut g[..]);
     steps(
-        num,
+        numbers,
         blocked,
         x,
         free,
-        u,
+        matrix,
         n,
         cols,
         scale,

@@ -31,16 +31,16 @@ use Rattle.sheet.specs.Answer.{sheetFault}
 use Rattle.sheet.proofs.Jobs.{sheet-fault}
 use Rattle.words.specs.Words.{wordLines, wordsOf}
 
-module _ (rule : Rule) (source : SplitMix64) (u : List Float) (m n : ℕ) (w : List Float) (output numbers indices : ℕ) (doubles : Doubles w)
-    (fine : jobFault rule (source .edition) u m n w output numbers indices ≡ 0) where
+module _ (rule : Rule) (source : SplitMix64) (matrix : List Float) (m n : ℕ) (w : List Float) (output numbers indices : ℕ) (doubles : Doubles w)
+    (fine : jobFault rule (source .edition) matrix m n w output numbers indices ≡ 0) where
   abbrev start : List Float
   start = normalized plusZero w
 
   abbrev last : List Float
-  last = returned u n w source rule .w
+  last = returned matrix n w source rule .w
 
-  job : Accepted rule u m n w output numbers indices
-  job = accepted rule (source .edition) u m n w output numbers indices fine
+  job : Accepted rule matrix m n w output numbers indices
+  job = accepted rule (source .edition) matrix m n w output numbers indices fine
 
   normal : Normal binary64 (length start) (at start)
   normal = start-normal doubles job
@@ -50,22 +50,22 @@ module _ (rule : Rule) (source : SplitMix64) (u : List Float) (m n : ℕ) (w : L
 
   last-normal : Normal binary64 (length last) (at last)
   last-normal =
-      normal-stage (columnsOf u n) n start source normal few (stopFor u n w source rule)
-      (leads plusZero (columnsOf u n) n start source (falling (columnsOf u n) n start source normal few) rule (job .ruled))
+      normal-stage (columnsOf matrix n) n start source normal few (stopFor matrix n w source rule)
+      (leads plusZero (columnsOf matrix n) n start source (falling (columnsOf matrix n) n start source normal few) rule (job .ruled))
 
   before-long : length start ≡ m
   before-long = length-normalized plusZero w ∙ job .sized .given
 
   after-long : length last ≡ m
-  after-long = length-stage plusZero (columnsOf u n) n start source (stopFor u n w source rule) ∙ before-long
+  after-long = length-stage plusZero (columnsOf matrix n) n start source (stopFor matrix n w source rule) ∙ before-long
 
-  pub list-accepted : movedFault u m n start last n n ≡ 0
+  pub list-accepted : movedFault matrix m n start last n n ≡ 0
   unfolding movedFault lengthFault rangeFault
   list-accepted =
       rw (
         le-ltb 256 m (job .sized .few),
         le-ltb 4096 n (job .sized .short),
-        eq-eqb (length u) (m * n) (job .sized .whole),
+        eq-eqb (length matrix) (m * n) (job .sized .whole),
         eq-eqb (length start) m before-long,
         eq-eqb (length last) m after-long,
         eq-eqb n n refl,
@@ -75,18 +75,18 @@ module _ (rule : Rule) (source : SplitMix64) (u : List Float) (m n : ℕ) (w : L
       )
 
   -- so the words are a line for each row, in the list's order
-  pub a-line-each : wordsOf u m n start last
-      ≡ wordLines (movedRows (lentChanges u m n start last))
-      (changesAt (lentChanges u m n start last) (movedRows (lentChanges u m n start last))) n
+  pub a-line-each : wordsOf matrix m n start last
+      ≡ wordLines (movedRows (lentChanges matrix m n start last))
+      (changesAt (lentChanges matrix m n start last) (movedRows (lentChanges matrix m n start last))) n
   unfolding wordsOf
   a-line-each = rw list-accepted
 
 -- of a sheet's job that is not refused
-pub sheet-lists : (rule : Rule) (source : SplitMix64) (u : List Float) (m n : ℕ) (w : List Float) → Doubles w → editionFault (source .edition) ≡ 0
-    → m ≤ 32 → n ≤ 64 → length u ≡ m * n → length w ≡ m → sheetFault rule u m n w ≡ 0
-    → wordsOf u m n (normalized plusZero w) (returned u n w source rule .w)
-    ≡ wordLines (movedRows (lentChanges u m n (normalized plusZero w) (returned u n w source rule .w)))
-    (changesAt (lentChanges u m n (normalized plusZero w) (returned u n w source rule .w))
-    (movedRows (lentChanges u m n (normalized plusZero w) (returned u n w source rule .w)))) n
-sheet-lists rule source u m n w doubles known few short whole given none =
-    a-line-each rule source u m n w m 4136 776 doubles (sheet-fault rule (source .edition) u m n w m known few short whole given refl ∙ none)
+pub sheet-lists : (rule : Rule) (source : SplitMix64) (matrix : List Float) (m n : ℕ) (w : List Float) → Doubles w → editionFault (source .edition) ≡ 0
+    → m ≤ 32 → n ≤ 64 → length matrix ≡ m * n → length w ≡ m → sheetFault rule matrix m n w ≡ 0
+    → wordsOf matrix m n (normalized plusZero w) (returned matrix n w source rule .w)
+    ≡ wordLines (movedRows (lentChanges matrix m n (normalized plusZero w) (returned matrix n w source rule .w)))
+    (changesAt (lentChanges matrix m n (normalized plusZero w) (returned matrix n w source rule .w))
+    (movedRows (lentChanges matrix m n (normalized plusZero w) (returned matrix n w source rule .w)))) n
+sheet-lists rule source matrix m n w doubles known few short whole given none =
+    a-line-each rule source matrix m n w m 4136 776 doubles (sheet-fault rule (source .edition) matrix m n w m known few short whole given refl ∙ none)

@@ -78,20 +78,20 @@ lining-whole {rows} {changes} {i} {out} {k} {r} {o} e h =
     rw p at (e .is)
 
 -- the list of an ensemble, refused or written
-module _ {u : List Float} {m n : ℕ} {before after : List Float} {rows : List ℕ} {changes : List Float} {number : ℕ} {rows' : List ℕ}
-    {changes' : List Float} (l : Listed u m n before after rows changes number rows' changes') (p : length rows ≡ n) (q : length changes ≡ n) where
-  fault-is : number ≡ movedFault u m n before after n n
-  fault-is = l .number ∙ ap (λ (x : ℕ). movedFault u m n before after x (length changes)) p ∙ ap (movedFault u m n before after n) q
+module _ {matrix : List Float} {m n : ℕ} {before after : List Float} {rows : List ℕ} {changes : List Float} {number : ℕ} {rows' : List ℕ}
+    {changes' : List Float} (l : Listed matrix m n before after rows changes number rows' changes') (p : length rows ≡ n) (q : length changes ≡ n) where
+  fault-is : number ≡ movedFault matrix m n before after n n
+  fault-is = l .number ∙ ap (λ (x : ℕ). movedFault matrix m n before after x (length changes)) p ∙ ap (movedFault matrix m n before after n) q
 
-  pub words-none : (i : ℕ) (out : List ℕ) → (number ≡ 0 → ⊥) → WroteOn (wordsOf u m n before after) i out i out
+  pub words-none : (i : ℕ) (out : List ℕ) → (number ≡ 0 → ⊥) → WroteOn (wordsOf matrix m n before after) i out i out
   unfolding wordsOf
   words-none i out h = rw (← fault-is, ne-eqb number 0 h) (none-wrote i out)
 
   pub words-some : {i : ℕ} {out : List ℕ} {r : ℕ} {out' : List ℕ} (xs : List ℕ) (ys : List Float) → number ≡ 0 → xs ≡ rows' → ys ≡ changes'
-      → length xs ≡ n → WroteOn (wordLines xs ys (length xs)) i out r out' → WroteOn (wordsOf u m n before after) i out r out'
+      → length xs ≡ n → WroteOn (wordLines xs ys (length xs)) i out r out' → WroteOn (wordsOf matrix m n before after) i out r out'
   unfolding wordsOf
   words-some xs ys z e f k w =
-      let cs : List Float = lentChanges u m n before after in
+      let cs : List Float = lentChanges matrix m n before after in
       let a : xs ≡ movedRows cs = e ∙ l .index ∙ rw (eq-eqb number 0 z) in
       let b : ys ≡ changesAt cs (movedRows cs) = f ∙ l .list ∙ rw (eq-eqb number 0 z) in
       let t : wordLines xs ys (length xs) ≡ wordLines (movedRows cs) (changesAt cs (movedRows cs)) n =
@@ -102,17 +102,17 @@ pub shorter : (t : Bool) (xs : List ℕ) (k : ℕ) → length xs ≤ k → lengt
 shorter true xs k h = h
 shorter false xs k h = omega arith
 
-pub length-words : (u : List Float) (m n : ℕ) (before after : List Float) → n ≤ 64 → length (wordsOf u m n before after) ≤ 2752
+pub length-words : (matrix : List Float) (m n : ℕ) (before after : List Float) → n ≤ 64 → length (wordsOf matrix m n before after) ≤ 2752
 unfolding wordsOf
-length-words u m n before after h =
-    let cs : List Float = lentChanges u m n before after in
+length-words matrix m n before after h =
+    let cs : List Float = lentChanges matrix m n before after in
     let rows : List ℕ = movedRows cs in
-    shorter (eqb (movedFault u m n before after n n) 0) (wordLines rows (changesAt cs rows) n) 2752
+    shorter (eqb (movedFault matrix m n before after n n) 0) (wordLines rows (changesAt cs rows) n) 2752
     (omega (arith, length-lines rows (changesAt cs rows) n))
 
-pub words-from : (u : List Float) (m n : ℕ) (x y after : List Float) {i : ℕ} {out : List ℕ} {r : ℕ} {out' : List ℕ} → x ≡ y
-    → WroteOn (wordsOf u m n x after) i out r out' → WroteOn (wordsOf u m n y after) i out r out'
-words-from u m n x y after e w = rw e at w
+pub words-from : (matrix : List Float) (m n : ℕ) (x y after : List Float) {i : ℕ} {out : List ℕ} {r : ℕ} {out' : List ℕ} → x ≡ y
+    → WroteOn (wordsOf matrix m n x after) i out r out' → WroteOn (wordsOf matrix m n y after) i out r out'
+words-from matrix m n x y after e w = rw e at w
 
 -- an array whose front was lent and came back as ys
 module _ {A : Type 0} (k : ℕ) (ys array : List A) (e : length ys ≡ length (take k array)) (h : k ≤ length array) where

@@ -40,16 +40,16 @@ stays-within t answer r answer' a e = go (leb (length t) (length answer)) refl (
 length-moved : (t : List ℕ) (h : Head) → h .m ≤ 32 → h .n ≤ 64
     → length (movedText (h .rule) (sourceOf h) (matrixOf t h) (h .m) (h .n) (weightsOf t h)) ≤ 4094
 length-moved t h few short =
-    let u : List Float = matrixOf t h in
+    let matrix : List Float = matrixOf t h in
     let w : List Float = weightsOf t h in
-    let after : List Float = returned u (h .n) w (sourceOf h) (h .rule) .w in
-    let words : List ℕ = wordsOf u (h .m) (h .n) (normalized plusZero w) after in
-    let accepted : Bool = eqb (sheetFault (h .rule) u (h .m) (h .n) w) 0 in
-    rw (length-append (jobText (h .rule) (sourceOf h) u (h .m) (h .n) w) (pick accepted words []))
+    let after : List Float = returned matrix (h .n) w (sourceOf h) (h .rule) .w in
+    let words : List ℕ = wordsOf matrix (h .m) (h .n) (normalized plusZero w) after in
+    let accepted : Bool = eqb (sheetFault (h .rule) matrix (h .m) (h .n) w) 0 in
+    rw (length-append (jobText (h .rule) (sourceOf h) matrix (h .m) (h .n) w) (pick accepted words []))
     (omega (
       arith,
       length-job t h few,
-      shorter accepted words 2752 (length-words u (h .m) (h .n) (normalized plusZero w) after short),
+      shorter accepted words 2752 (length-words matrix (h .m) (h .n) (normalized plusZero w) after short),
     ))
 
 -- every answer has at most 4094 bytes

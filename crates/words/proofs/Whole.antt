@@ -35,19 +35,19 @@ use Rattle.words.specs.Words.{wordsOf, movedText, movedAnswer}
 use Rattle.words.proofs.Listing.{length-words}
 
 -- a job that is refused has no words, and one that is accepted those from the normalized weights to the ones returned
-module _ (rule : Rule) (source : SplitMix64) (u : List Float) (m n : ℕ) (w : List Float) where
-  pub refused-moved : {out : List ℕ} {r : ℕ} {out' : List ℕ} → (sheetFault rule u m n w ≡ 0 → ⊥)
-      → Wrote (jobText rule source u m n w) out r out' → Wrote (movedText rule source u m n w) out r out'
-  refused-moved h e = rw (ne-eqb (sheetFault rule u m n w) 0 h, append-nil (jobText rule source u m n w)) e
+module _ (rule : Rule) (source : SplitMix64) (matrix : List Float) (m n : ℕ) (w : List Float) where
+  pub refused-moved : {out : List ℕ} {r : ℕ} {out' : List ℕ} → (sheetFault rule matrix m n w ≡ 0 → ⊥)
+      → Wrote (jobText rule source matrix m n w) out r out' → Wrote (movedText rule source matrix m n w) out r out'
+  refused-moved h e = rw (ne-eqb (sheetFault rule matrix m n w) 0 h, append-nil (jobText rule source matrix m n w)) e
 
-  pub accepted-moved : {out o : List ℕ} {a r : ℕ} {o' : List ℕ} (after : List Float) → sheetFault rule u m n w ≡ 0
-      → after ≡ returned u n w source rule .w → Wrote (jobText rule source u m n w) out a o
-      → WroteOn (wordsOf u m n (normalized plusZero w) after) a o r o'
-      → a + length (wordsOf u m n (normalized plusZero w) after) ≤ length out → Wrote (movedText rule source u m n w) out r o'
+  pub accepted-moved : {out o : List ℕ} {a r : ℕ} {o' : List ℕ} (after : List Float) → sheetFault rule matrix m n w ≡ 0
+      → after ≡ returned matrix n w source rule .w → Wrote (jobText rule source matrix m n w) out a o
+      → WroteOn (wordsOf matrix m n (normalized plusZero w) after) a o r o'
+      → a + length (wordsOf matrix m n (normalized plusZero w) after) ≤ length out → Wrote (movedText rule source matrix m n w) out r o'
   accepted-moved after h e p q l =
-      let same : wordsOf u m n (normalized plusZero w) after ≡ wordsOf u m n (normalized plusZero w) (returned u n w source rule .w) =
-      ap (wordsOf u m n (normalized plusZero w)) e in
-      rw (eq-eqb (sheetFault rule u m n w) 0 h) (front-more p (rw same at q) (rw same at l))
+      let same : wordsOf matrix m n (normalized plusZero w) after ≡ wordsOf matrix m n (normalized plusZero w) (returned matrix n w source rule .w) =
+      ap (wordsOf matrix m n (normalized plusZero w)) e in
+      rw (eq-eqb (sheetFault rule matrix m n w) 0 h) (front-more p (rw same at q) (rw same at l))
 
 -- the number of an answer is what the job is refused for
 number-of : (f : ℕ) (x : Answer) → x .number ≡ 0 → pick (eqb f 0) x (refusal f) .number ≡ f
@@ -57,45 +57,45 @@ number-of f x h = go (eqb f 0) refl
     go true e = h ∙ sym (eqb-true f 0 e)
     go false e = refl
 
-zero-number : (u : List Float) (n : ℕ) (w : List Float) (source : SplitMix64) (rule : Rule) → answerOf u n w source rule .number ≡ 0
+zero-number : (matrix : List Float) (n : ℕ) (w : List Float) (source : SplitMix64) (rule : Rule) → answerOf matrix n w source rule .number ≡ 0
 unfolding answerOf
-zero-number u n w source rule = refl
+zero-number matrix n w source rule = refl
 
 -- the answer of a job ends within its part of the buffer
 pub answer-ends : (s : Answer) (w : List Float) {out : List ℕ} {r : ℕ} {out' : List ℕ} → Wrote (answerText s w) out r out' → length w ≤ 32 → r ≤ 1342
 answer-ends s w e h = omega (arith, e .long, length-answer s w h)
 
 -- a job with the sizes and the scratch of a sheet
-module _ {rule : Rule} {source : SplitMix64} {u : List Float} {m n : ℕ} {w output numbers : List Float} {indices : List ℕ}
+module _ {rule : Rule} {source : SplitMix64} {matrix : List Float} {m n : ℕ} {w output numbers : List Float} {indices : List ℕ}
     {s : Answer} {output' numbers' : List Float} {indices' : List ℕ} (known : editionFault (source .edition) ≡ 0) (columns : m ≤ 32) (rows : n ≤ 64)
-    (whole : length u ≡ m * n) (given : length w ≡ m) (left : length output ≡ m) (floats : length numbers ≡ 4136) (counts : length indices ≡ 776)
-    (t : Thinned rule source u m n w output numbers indices s output' numbers' indices') where
-  number-is : s .number ≡ sheetFault rule u m n w
+    (whole : length matrix ≡ m * n) (given : length w ≡ m) (left : length output ≡ m) (floats : length numbers ≡ 4136) (counts : length indices ≡ 776)
+    (t : Thinned rule source matrix m n w output numbers indices s output' numbers' indices') where
+  number-is : s .number ≡ sheetFault rule matrix m n w
   number-is =
-      let fault : ℕ = jobFault rule (source .edition) u m n w (length output) (length numbers) (length indices) in
-      ap (λ (x : Answer). x .number) (t .answers) ∙ number-of fault (answerOf u n w source rule) (zero-number u n w source rule)
-      ∙ ap (λ (z : ℕ). jobFault rule (source .edition) u m n w (length output) z (length indices)) floats
-      ∙ ap (jobFault rule (source .edition) u m n w (length output) 4136) counts
-      ∙ sheet-fault rule (source .edition) u m n w (length output) known columns rows whole given left
+      let fault : ℕ = jobFault rule (source .edition) matrix m n w (length output) (length numbers) (length indices) in
+      ap (λ (x : Answer). x .number) (t .answers) ∙ number-of fault (answerOf matrix n w source rule) (zero-number matrix n w source rule)
+      ∙ ap (λ (z : ℕ). jobFault rule (source .edition) matrix m n w (length output) z (length indices)) floats
+      ∙ ap (jobFault rule (source .edition) matrix m n w (length output) 4136) counts
+      ∙ sheet-fault rule (source .edition) matrix m n w (length output) known columns rows whole given left
 
   pub job-refused : {out : List ℕ} {r : ℕ} {out' : List ℕ} → (s .number ≡ 0 → ⊥) → Wrote (answerText s output') out r out'
-      → Wrote (movedText rule source u m n w) out r out'
+      → Wrote (movedText rule source matrix m n w) out r out'
   job-refused {out} {r} {out'} h e =
-      refused-moved rule source u m n w (λ z. h (number-is ∙ z))
+      refused-moved rule source matrix m n w (λ z. h (number-is ∙ z))
       (job-wrote out r out' known columns rows whole given left floats counts t e)
 
   pub job-accepted : {out : List ℕ} {a : ℕ} {o : List ℕ} {r : ℕ} {o' : List ℕ} → s .number ≡ 0 → 4094 ≤ length out → length output' ≤ 32
-      → Wrote (answerText s output') out a o → WroteOn (wordsOf u m n (normalized plusZero w) output') a o r o'
-      → Wrote (movedText rule source u m n w) out r o'
+      → Wrote (answerText s output') out a o → WroteOn (wordsOf matrix m n (normalized plusZero w) output') a o r o'
+      → Wrote (movedText rule source matrix m n w) out r o'
   job-accepted {out} {a} {o} z room few e q =
-      accepted-moved rule source u m n w output' (sym number-is ∙ z) (t .writes ∙ rw (eq-eqb (s .number) 0 z))
+      accepted-moved rule source matrix m n w output' (sym number-is ∙ z) (t .writes ∙ rw (eq-eqb (s .number) 0 z))
       (job-wrote out a o known columns rows whole given left floats counts t e) q
-      (omega (arith, answer-ends s output' e few, length-words u m n (normalized plusZero w) output' rows))
+      (omega (arith, answer-ends s output' e few, length-words matrix m n (normalized plusZero w) output' rows))
 
-pub job-read : (t : List ℕ) (h : Head) (u w : List Float) (out : List ℕ) (r : ℕ) (out' : List ℕ) → u ≡ matrixOf t h → w ≡ weightsOf t h
-    → Wrote (movedText (h .rule) (sourceOf h) u (h .m) (h .n) w) out r out'
+pub job-read : (t : List ℕ) (h : Head) (matrix w : List Float) (out : List ℕ) (r : ℕ) (out' : List ℕ) → matrix ≡ matrixOf t h → w ≡ weightsOf t h
+    → Wrote (movedText (h .rule) (sourceOf h) matrix (h .m) (h .n) w) out r out'
     → Wrote (movedText (h .rule) (sourceOf h) (matrixOf t h) (h .m) (h .n) (weightsOf t h)) out r out'
-job-read t h u w out r out' e f g = rw (← e, ← f) g
+job-read t h matrix w out r out' e f g = rw (← e, ← f) g
 
 pub sheet-bad : (t : List ℕ) (line : ℕ) (out : List ℕ) (r : ℕ) (out' : List ℕ) → line ≡ wrongLine t → (line ≡ 0 → ⊥)
     → WroteOn (noteText badWord line) 0 out r out' → 4094 ≤ length out → Wrote (movedAnswer t) out r out'

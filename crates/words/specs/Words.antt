@@ -35,16 +35,16 @@ wordLines rows changes (suc k) = wordLines rows changes k ++ wordLine (getD rows
 
 -- the lines of the list of which word moved, for every one of n rows in the list's order; none where the list is refused
 unfoldable pub wordsOf : List Float → ℕ → ℕ → List Float → List Float → List ℕ
-wordsOf u m n before after =
-    let rows : List ℕ = movedRows (lentChanges u m n before after) in
-    pick (eqb (movedFault u m n before after n n) 0) (wordLines rows (changesAt (lentChanges u m n before after) rows) n) []
+wordsOf matrix m n before after =
+    let rows : List ℕ = movedRows (lentChanges matrix m n before after) in
+    pick (eqb (movedFault matrix m n before after n n) 0) (wordLines rows (changesAt (lentChanges matrix m n before after) rows) n) []
 
 -- the text that answers a job: that of `thin`, and where the job is accepted the words that moved from the normalized weights to those
 -- returned
 abbrev pub movedText : Rule → SplitMix64 → List Float → ℕ → ℕ → List Float → List ℕ
-movedText rule source u m n w =
-    jobText rule source u m n w
-    ++ pick (eqb (sheetFault rule u m n w) 0) (wordsOf u m n (normalized plusZero w) (returned u n w source rule .w)) []
+movedText rule source matrix m n w =
+    jobText rule source matrix m n w
+    ++ pick (eqb (sheetFault rule matrix m n w) 0) (wordsOf matrix m n (normalized plusZero w) (returned matrix n w source rule .w)) []
 
 -- the text that answers a sheet
 unfoldable pub movedAnswer : List ℕ → List ℕ

@@ -34,7 +34,7 @@ returns c =
     let at-start = at-turn-downhill .before .before .before .before .before .before .before .before .before .before in
     let a = at-start .args in
     let p = at-start .pre in
-    no-way (entryOf (a .u .now) (a .n) (a .cols .now) (a .scale .now)) (a .rows) (a .num .now) (a .x .now) (a .free .now)
+    no-way (entryOf (a .matrix .now) (a .n) (a .cols .now) (a .scale .now)) (a .rows) (a .numbers .now) (a .x .now) (a .free .now)
     (a .g .now) (at-turn-downhill .turn-downhill .last .0) (at-turn-downhill .turn-downhill .last .1 .1 .1 .1 .1 .1 .0)
     (at-reach .reach .result)
     (at-turn-downhill .turn-downhill .ensures) (p .1 ∙ sym (p .2)) (at-reach .reach .ensures) (c .before .is-finite .result)
@@ -78,7 +78,7 @@ returns-2 c =
     let at-start = at-turn-downhill .before .before .before .before .before .before .before .before .before .before in
     let a = at-start .args in
     let p = at-start .pre in
-    goes-along (entryOf (a .u .now) (a .n) (a .cols .now) (a .scale .now)) (a .rows) (a .num .now) (a .x .now) (a .free .now)
+    goes-along (entryOf (a .matrix .now) (a .n) (a .cols .now) (a .scale .now)) (a .rows) (a .numbers .now) (a .x .now) (a .free .now)
     (a .g .now) (at-turn-downhill .turn-downhill .last .0) (at-turn-downhill .turn-downhill .last .1 .1 .1 .1 .1 .1 .0)
     (at-reach .reach .result)
     (at-turn-downhill .turn-downhill .ensures) (p .1 ∙ sym (p .2)) (at-reach .reach .ensures) (at-is-finite .is-finite .result)

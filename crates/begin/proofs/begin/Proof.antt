@@ -83,14 +83,14 @@ block-first-requires c κs =
     let a = at-start .args in
     let p = at-start .pre in
     let r = length (a .blocked .now) in
-    let e = entryOf (a .u .now) (a .n) (a .cols .now) (a .scale .now) in
+    let e = entryOf (a .matrix .now) (a .n) (a .cols .now) (a .scale .now) in
     let l = length (a .cols .now) in
     let lb = at-clear-words .clear-words .kept .0 in
-    let ln = normed-long e l r (r + r + r - (r + r)) (r - 0) (l / 4) (at-first-rows .first-rows .result) (a .num .now)
+    let ln = normed-long e l r (r + r + r - (r + r)) (r - 0) (l / 4) (at-first-rows .first-rows .result) (a .numbers .now)
     (at-norms-into .norms-into .last .0) _ (at-first-rows .first-rows .last .0) [] (omega arith) (omega arith) refl
     (omega (arith, p .2)) (omega (arith, p .0 .few)) (at-norms-into .norms-into .ensures) (at-first-rows .first-rows .ensures) in (
       (rw lb (p .0), p .1, rw lb (omega (arith, ln, p .2)), at-clear-words .clear-words .ensures ∙ ap (repeated 0) (sym lb)),
-      rw lb (first-rows-below e l r (r + r + r - (r + r)) (r - 0) (l / 4) (at-first-rows .first-rows .result) (a .num .now)
+      rw lb (first-rows-below e l r (r + r + r - (r + r)) (r - 0) (l / 4) (at-first-rows .first-rows .result) (a .numbers .now)
           (at-norms-into .norms-into .last .0) _ (at-first-rows .first-rows .last .0) _ (omega arith) (omega arith) refl
           (omega (arith, p .2)) (omega (arith, p .0 .few)) (at-norms-into .norms-into .ensures)
           (at-first-rows .first-rows .ensures)),
@@ -115,9 +115,9 @@ returns c =
     let a = at-start .args in
     let p = at-start .pre in
     let r = length (a .blocked .now) in
-    let e = entryOf (a .u .now) (a .n) (a .cols .now) (a .scale .now) in
+    let e = entryOf (a .matrix .now) (a .n) (a .cols .now) (a .scale .now) in
     let l = length (a .cols .now) in
-    begun-is e l r (r + r + r - (r + r)) (r - 0) (l / 4) (at-first-rows .first-rows .result) (a .num .now)
+    begun-is e l r (r + r + r - (r + r)) (r - 0) (l / 4) (at-first-rows .first-rows .result) (a .numbers .now)
     (at-norms-into .norms-into .last .0) _ (at-first-rows .first-rows .last .0) _ (omega arith) (omega arith) refl
     (omega (arith, p .2)) (omega (arith, p .0 .few)) (at-norms-into .norms-into .ensures) (at-first-rows .first-rows .ensures)
     (at-block-first .block-first .result) (at-block-first .block-first .last .0) (at-block-first .block-first .last .1 .0)

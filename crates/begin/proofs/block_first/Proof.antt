@@ -12,11 +12,11 @@ use Rattle.begin.proofs.block_first.Statement.{statement}
 use Rattle.begin.proofs.block_first.Tie as tie
 
 abbrev Inv-loop : tie.InvT-loop
-Inv-loop num₀ blocked₀ first u n cols scale v₀ base count₀ k₀ num blocked v count k =
-    Blocking (entryOf u n cols scale) (length cols) first num₀ (length blocked₀) v₀ num blocked v count k
+Inv-loop numbers₀ blocked₀ first matrix n cols scale v₀ base count₀ k₀ numbers blocked v count k =
+    Blocking (entryOf matrix n cols scale) (length cols) first numbers₀ (length blocked₀) v₀ numbers blocked v count k
 
 abbrev μ-loop : tie.MeasureT-loop
-μ-loop num₀ blocked₀ first u n cols scale v₀ base count₀ k₀ num blocked v count k = length first - k
+μ-loop numbers₀ blocked₀ first matrix n cols scale v₀ base count₀ k₀ numbers blocked v count k = length first - k
 
 add-base : tie.Need-add-base Inv-loop μ-loop
 add-base c = search needs
@@ -27,7 +27,8 @@ add-base-2 c = search needs
 loop-holds : tie.Need-loop-holds Inv-loop μ-loop
 loop-holds c =
     let a = c .before .before .before .before .before .before .before .args in
-    blocking-start _ _ (a .first .now) (a .num .now) _ (a .v .now) (a .blocked .now) refl (c .before .before .before .before .before .before .before .pre .0 .3)
+    blocking-start _ _ (a .first .now) (a .numbers .now) _ (a .v .now) (a .blocked .now) refl
+    (c .before .before .before .before .before .before .before .pre .0 .3)
 
 mul-i : tie.Need-mul-i Inv-loop μ-loop
 mul-i c = search needs
@@ -74,7 +75,7 @@ block-row-requires c κs =
     let a = c .before .before .before .before .before .before .before .before .before .before .before .before .args in
     let p = c .before .before .before .before .before .before .before .before .before .before .before .before .pre .0 in
     let s = c .before .before .before .before .loop in
-    (chosen-own (p .0), s .inv .vs ∙ p .1, rest-room _ _ (s .num) (omega (arith, s .inv .nums)), s .inv .most)
+    (chosen-own (p .0), s .inv .vs ∙ p .1, rest-room _ _ (s .numbers) (omega (arith, s .inv .nums)), s .inv .most)
 
 add-k : tie.Need-add-k Inv-loop μ-loop
 add-k c = search needs
@@ -90,8 +91,8 @@ loop-again c =
     let at-start = at-loop .before .before .before .before .before .before .before .before in
     let a = at-start .args in
     let s = at-loop .loop in
-    blocking-turn (entryOf (a .u .now) (a .n) (a .cols .now) (a .scale .now)) (length (a .cols .now)) (a .first .now)
-    (a .num .now) (length (a .blocked .now)) (a .v .now) (s .num) (s .blocked) (s .v) (s .count) (s .k) (s .inv)
+    blocking-turn (entryOf (a .matrix .now) (a .n) (a .cols .now) (a .scale .now)) (length (a .cols .now)) (a .first .now)
+    (a .numbers .now) (length (a .blocked .now)) (a .v .now) (s .numbers) (s .blocked) (s .v) (s .count) (s .k) (s .inv)
     (at-block-row .block-row .result) (at-block-row .block-row .last .0) (at-block-row .block-row .last .1 .1 .1 .1 .1 .1 .1 .0)
     (at-loop-test .loop-test .taken) (omega arith) (at-block-row .block-row .kept .0)
     (at-block-row .block-row .kept .1 .1 .1 .1 .1 .1 .1 .0) (at-block-row .block-row .ensures)
@@ -110,8 +111,8 @@ returns c =
     let at-start = c .before .before .before .before .before .before .before .before .before in
     let a = at-start .args in
     let s = c .before .loop in
-    blocking-end (entryOf (a .u .now) (a .n) (a .cols .now) (a .scale .now)) (length (a .cols .now)) (a .first .now) (a .num .now)
-    (length (a .blocked .now)) (a .v .now) (s .num) (s .blocked) (s .v) (s .count) (s .k) (s .inv) (c .loop-test .left)
+    blocking-end (entryOf (a .matrix .now) (a .n) (a .cols .now) (a .scale .now)) (length (a .cols .now)) (a .first .now) (a .numbers .now)
+    (length (a .blocked .now)) (a .v .now) (s .numbers) (s .blocked) (s .v) (s .count) (s .k) (s .inv) (c .loop-test .left)
 
 pub block-first-spec : {M : Type 1} → statement M
 block-first-spec =

@@ -28,7 +28,7 @@ returns c =
     let at-start = at-times-into .before .before .before .before .before .before .before .before in
     let a = at-start .args in
     at-local-search .local-search .ensures ∙ ap
-    (searched (entryOf (a .u .now) (a .n) (a .cols .now) (a .scale .now)) (length (a .cols .now)) (a .x .now))
+    (searched (entryOf (a .matrix .now) (a .n) (a .cols .now) (a .scale .now)) (length (a .cols .now)) (a .x .now))
     (at-times-into .times-into .ensures)
 
 pub search-anew-spec : {M : Type 1} → statement M

@@ -32,10 +32,10 @@ walk-to-end-requires c κs =
     let start = at-here in
     let a = start .args in (
       start .pre .0,
-      roomy-still _ (a .num .now) _ (a .blocked .now) _ (a .x .now) _ (a .free .now) _ (start .pre .1)
-          (length-front (a .num .now) (at-clear2 .clear2 .last .0) (length (a .blocked .now)) (at-clear2 .clear2 .kept .0)) refl
+      roomy-still _ (a .numbers .now) _ (a .blocked .now) _ (a .x .now) _ (a .free .now) _ (start .pre .1)
+          (length-front (a .numbers .now) (at-clear2 .clear2 .last .0) (length (a .blocked .now)) (at-clear2 .clear2 .kept .0)) refl
           (at-clear .clear .kept .0) (at-fill-words .fill-words .kept .0),
-      fresh-is _ _ (a .num .now) (a .x .now) _ _ (a .free .now) _ (start .pre .1 .wide) (start .pre .1 .marks) (omega arith)
+      fresh-is _ _ (a .numbers .now) (a .x .now) _ _ (a .free .now) _ (start .pre .1 .wide) (start .pre .1 .marks) (omega arith)
           (at-clear .clear .ensures) (at-clear2 .clear2 .ensures) (at-fill-words .fill-words .ensures),
     )
 

@@ -17,16 +17,16 @@ use Rattle.coloring.proofs.walk_to_end.Statement.{statement}
 use Rattle.coloring.proofs.walk_to_end.Tie as tie
 
 abbrev Inv-loop : tie.InvT-loop
-Inv-loop num₀ blocked₀ x₀ free₀ u n cols scale places₀ subcols₀ subscale₀ subx₀ subfree₀ g₀ r₀ directions₀ left₀ num blocked x free places
+Inv-loop numbers₀ blocked₀ x₀ free₀ matrix n cols scale places₀ subcols₀ subscale₀ subx₀ subfree₀ g₀ r₀ directions₀ left₀ numbers blocked x free places
     subcols subscale subx subfree g r directions left =
-    Roomy (length cols) num blocked x free 0 × (length num ≡ length num₀) × (length blocked ≡ length blocked₀) × (left ≡ freeOnes free)
+    Roomy (length cols) numbers blocked x free 0 × (length numbers ≡ length numbers₀) × (length blocked ≡ length blocked₀) × (left ≡ freeOnes free)
     × Rooms places subcols subscale subx subfree g
-    × (walked plusZero (entryOf u n cols scale) (length cols) (length blocked₀) r₀
-    ≡ onward plusZero (entryOf u n cols scale) (length cols) (length blocked₀) (between (length blocked₀) num x free r directions))
+    × (walked plusZero (entryOf matrix n cols scale) (length cols) (length blocked₀) r₀
+    ≡ onward plusZero (entryOf matrix n cols scale) (length cols) (length blocked₀) (between (length blocked₀) numbers x free r directions))
     × (directions + 2 * freeOnes free ≤ 2 * length cols)
 
 abbrev μ-loop : tie.MeasureT-loop
-μ-loop num₀ blocked₀ x₀ free₀ u n cols scale places₀ subcols₀ subscale₀ subx₀ subfree₀ g₀ r₀ directions₀ left₀ num blocked x free places
+μ-loop numbers₀ blocked₀ x₀ free₀ matrix n cols scale places₀ subcols₀ subscale₀ subx₀ subfree₀ g₀ r₀ directions₀ left₀ numbers blocked x free places
     subcols subscale subx subfree g r directions left = left
 
 count-free-requires : tie.Need-count-free-requires Inv-loop μ-loop
@@ -92,8 +92,8 @@ add-directions c =
       arith,
       at-start .pre .0 .few,
       l .inv .6,
-      walk-few plusZero (entryOf (a .u .now) (a .n) (a .cols .now) (a .scale .now)) (length (a .cols .now))
-          (length (a .blocked .now)) (between (length (a .blocked .now)) (l .num) (l .x) (l .free) (l .r) (l .directions)) _ step
+      walk-few plusZero (entryOf (a .matrix .now) (a .n) (a .cols .now) (a .scale .now)) (length (a .cols .now))
+          (length (a .blocked .now)) (between (length (a .blocked .now)) (l .numbers) (l .x) (l .free) (l .r) (l .directions)) _ step
           (λ z. omega (arith, l .inv .3, at-loop-test .loop-test .taken)) (l .inv .0 .marks),
     )
 
@@ -114,8 +114,8 @@ loop-less c =
       arith,
       c .count-free2 .ensures,
       l .inv .3,
-      walk-falls plusZero (entryOf (a .u .now) (a .n) (a .cols .now) (a .scale .now)) (length (a .cols .now))
-          (length (a .blocked .now)) (between (length (a .blocked .now)) (l .num) (l .x) (l .free) (l .r) (l .directions)) _ step
+      walk-falls plusZero (entryOf (a .matrix .now) (a .n) (a .cols .now) (a .scale .now)) (length (a .cols .now))
+          (length (a .blocked .now)) (between (length (a .blocked .now)) (l .numbers) (l .x) (l .free) (l .r) (l .directions)) _ step
           (λ z. omega (arith, l .inv .3, at-loop-test .loop-test .taken)),
     )
 
@@ -142,14 +142,14 @@ loop-again c =
         subfree = kept .1 .1 .1 .1 .1 .1 .1 .1 .1 .1 .1 .1 .1 .0 ∙ l .inv .4 .subfree;
         g = kept .1 .1 .1 .1 .1 .1 .1 .1 .1 .1 .1 .1 .1 .1 .0 ∙ l .inv .4 .g;
       },
-      l .inv .5 ∙ walk-turn plusZero (entryOf (a .u .now) (a .n) (a .cols .now) (a .scale .now)) (length (a .cols .now))
-          (length (a .blocked .now)) (between (length (a .blocked .now)) (l .num) (l .x) (l .free) (l .r) (l .directions)) _ step
+      l .inv .5 ∙ walk-turn plusZero (entryOf (a .matrix .now) (a .n) (a .cols .now) (a .scale .now)) (length (a .cols .now))
+          (length (a .blocked .now)) (between (length (a .blocked .now)) (l .numbers) (l .x) (l .free) (l .r) (l .directions)) _ step
           (λ z. omega (arith, l .inv .3, at-loop-test .loop-test .taken)),
       omega (
         arith,
         l .inv .6,
-        walk-few plusZero (entryOf (a .u .now) (a .n) (a .cols .now) (a .scale .now)) (length (a .cols .now))
-            (length (a .blocked .now)) (between (length (a .blocked .now)) (l .num) (l .x) (l .free) (l .r) (l .directions)) _ step
+        walk-few plusZero (entryOf (a .matrix .now) (a .n) (a .cols .now) (a .scale .now)) (length (a .cols .now))
+            (length (a .blocked .now)) (between (length (a .blocked .now)) (l .numbers) (l .x) (l .free) (l .r) (l .directions)) _ step
             (λ z. omega (arith, l .inv .3, at-loop-test .loop-test .taken)) (l .inv .0 .marks),
       ),
     )
@@ -171,8 +171,8 @@ returns c =
     let at-start = c .before .before .before .before .before .before .before .before .before .before .before in
     let a = at-start .args in
     let l = c .before .loop in
-    sym (l .inv .5 ∙ walk-over plusZero (entryOf (a .u .now) (a .n) (a .cols .now) (a .scale .now)) (length (a .cols .now))
-    (length (a .blocked .now)) (between (length (a .blocked .now)) (l .num) (l .x) (l .free) (l .r) (l .directions)) (omega arith))
+    sym (l .inv .5 ∙ walk-over plusZero (entryOf (a .matrix .now) (a .n) (a .cols .now) (a .scale .now)) (length (a .cols .now))
+    (length (a .blocked .now)) (between (length (a .blocked .now)) (l .numbers) (l .x) (l .free) (l .r) (l .directions)) (omega arith))
 
 pub walk-to-end-spec : {M : Type 1} → statement M
 walk-to-end-spec =

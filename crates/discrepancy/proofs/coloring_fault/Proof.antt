@@ -30,11 +30,11 @@ mul-if2 c =
 returns-2 : tie.Need-returns-2
 unfolding coloringFault
 returns-2 c =
-    let u : List Float = c .before .before .before .before .args .matrix .now in
+    let matrix : List Float = c .before .before .before .before .args .matrix .now in
     let m : ℕ = c .before .before .before .before .args .m in
     let area : ℕ = m * c .before .before .before .before .args .n in
     rw (sym (c .before .before .too-large .ensures) ∙ c .before .if1 .left)
-    (⊎-elim (λ w. rw (ne-eqb (length u) area (w .taken))) (λ w. rw (eq-eqb (length u) area (w .0 .left), w .1 .taken)) (c .if2 .came))
+    (⊎-elim (λ w. rw (ne-eqb (length matrix) area (w .taken))) (λ w. rw (eq-eqb (length matrix) area (w .0 .left), w .1 .taken)) (c .if2 .came))
 
 scratch-short-requires : tie.Need-scratch-short-requires
 scratch-short-requires c κs =
@@ -45,12 +45,12 @@ scratch-short-requires c κs =
 returns-3 : tie.Need-returns-3
 unfolding coloringFault
 returns-3 c =
-    let u : List Float = c .before .before .before .before .before .before .before .args .matrix .now in
+    let matrix : List Float = c .before .before .before .before .before .before .before .args .matrix .now in
     let m : ℕ = c .before .before .before .before .before .before .before .args .m in
     let area : ℕ = m * c .before .before .before .before .before .before .before .args .n in
     rw (
       sym (c .before .before .before .before .before .too-large .ensures) ∙ c .before .before .before .before .if1 .left,
-      eq-eqb (length u) area (c .before .before .before .if2 .left),
+      eq-eqb (length matrix) area (c .before .before .before .if2 .left),
       c .before .before .if3 .left,
       sym (c .before .scratch-short .ensures) ∙ c .if4 .taken,
     )

@@ -1,4 +1,4 @@
--- `entries::add_one_at` meets its contract: the part of u is the column.
+-- `entries::add_one_at` meets its contract: the part of matrix is the column.
 use borrow.Author.Needs.{needs}
 use native.Mathlib.Nat.{add-sub-cancel-left}
 use native.Mathlib.Omega.{arith}

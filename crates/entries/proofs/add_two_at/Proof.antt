@@ -1,4 +1,4 @@
--- `entries::add_two_at` meets its contract: the two parts of u are the columns.
+-- `entries::add_two_at` meets its contract: the two parts of matrix are the columns.
 use borrow.Author.Needs.{needs}
 use native.Mathlib.Nat.{add-sub-cancel-left}
 use native.Mathlib.Omega.{arith}

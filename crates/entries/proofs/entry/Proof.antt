@@ -1,4 +1,4 @@
--- `entries::entry` meets its contract: above row n it is read from its column, and under it stands |s|. Each column lies in u, so no index wraps.
+-- `entries::entry` meets its contract: above row n it is read from its column, and under it stands |s|. Each column lies in matrix, so no index wraps.
 use borrow.Author.Needs.{needs}
 use mathlib.Core.Path.{sym, _∙_}
 use native.Mathlib.Omega.{arith}
@@ -55,13 +55,14 @@ returns c =
     let at-if1 = c .before .before in
     let at-start = at-if1 .before .before .before .before .before in
     let a = at-start .args in
-    sym (entry-own (a .u .now) (a .n) (a .cols .now) (a .scale .now) (a .p) (a .i) (at-start .pre .0 .inside (a .p) (at-start .pre .1)) (at-if1 .if1 .taken))
+    sym (entry-own (a .matrix .now) (a .n) (a .cols .now) (a .scale .now) (a .p) (a .i) (at-start .pre .0 .inside (a .p) (at-start .pre .1))
+    (at-if1 .if1 .taken))
 
 returns-2 : tie.Need-returns-2
 returns-2 c =
     let at-start = c .before .before .before .before .before .before in
     let a = at-start .args in
-    c .abs .ensures ∙ sym (entry-under (a .u .now) (a .n) (a .cols .now) (a .scale .now) (a .p) (a .i)
+    c .abs .ensures ∙ sym (entry-under (a .matrix .now) (a .n) (a .cols .now) (a .scale .now) (a .p) (a .i)
     (at-start .pre .0 .inside (a .p) (at-start .pre .1)) (c .before .if1 .left))
 
 pub entry-spec : {M : Type 1} → statement M

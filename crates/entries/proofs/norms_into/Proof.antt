@@ -14,11 +14,11 @@ use Rattle.entries.proofs.norms_into.Statement.{statement}
 use Rattle.entries.proofs.norms_into.Tie as tie
 
 abbrev Inv-loop : tie.InvT-loop
-Inv-loop acc₀ u n cols scale p₀ acc p =
-    (p ≤ length cols) × (length acc ≡ length acc₀) × (acc ≡ rowNorms plusZero (entryOf u n cols scale) p (length acc₀))
+Inv-loop acc₀ matrix n cols scale p₀ acc p =
+    (p ≤ length cols) × (length acc ≡ length acc₀) × (acc ≡ rowNorms plusZero (entryOf matrix n cols scale) p (length acc₀))
 
 abbrev μ-loop : tie.MeasureT-loop
-μ-loop acc₀ u n cols scale p₀ acc p = length cols - p
+μ-loop acc₀ matrix n cols scale p₀ acc p = length cols - p
 
 clear-requires : tie.Need-clear-requires Inv-loop μ-loop
 clear-requires c κs = search needs
@@ -89,7 +89,7 @@ loop-again : tie.Need-loop-again Inv-loop μ-loop
 loop-again c =
     let a = c .before .before .before .before .before .before .before .before .before .before .before .before .before .before .before .before .before .args in
     let l = c .before .before .before .before .before .before .before .before .loop in
-    let e = entryOf (a .u .now) (a .n) (a .cols .now) (a .scale .now) in (
+    let e = entryOf (a .matrix .now) (a .n) (a .cols .now) (a .scale .now) in (
       omega arith,
       c .before .before .add-squares .kept .0 ∙ l .inv .1,
       simp add-sub-cancel-left at (c .before .before .add-squares .ensures) ∙ one-more plusZero

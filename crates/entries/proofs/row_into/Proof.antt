@@ -9,10 +9,10 @@ use Rattle.entries.proofs.row_into.Statement.{statement}
 use Rattle.entries.proofs.row_into.Tie as tie
 
 abbrev Inv-loop : tie.InvT-loop
-Inv-loop v₀ u n cols scale i p₀ v p = Filled (λ q. entryOf u n cols scale q i) v₀ p v
+Inv-loop v₀ matrix n cols scale i p₀ v p = Filled (λ q. entryOf matrix n cols scale q i) v₀ p v
 
 abbrev μ-loop : tie.MeasureT-loop
-μ-loop v₀ u n cols scale i p₀ v p = length v₀ - p
+μ-loop v₀ matrix n cols scale i p₀ v p = length v₀ - p
 
 loop-holds : tie.Need-loop-holds Inv-loop μ-loop
 loop-holds c = start _ _

@@ -13,11 +13,11 @@ use Rattle.entries.proofs.times_into.Statement.{statement}
 use Rattle.entries.proofs.times_into.Tie as tie
 
 abbrev Inv-loop : tie.InvT-loop
-Inv-loop acc₀ u n cols scale g p₀ acc p =
-    (p ≤ length cols) × (length acc ≡ length acc₀) × (acc ≡ times plusZero (entryOf u n cols scale) p (length acc₀) g)
+Inv-loop acc₀ matrix n cols scale g p₀ acc p =
+    (p ≤ length cols) × (length acc ≡ length acc₀) × (acc ≡ times plusZero (entryOf matrix n cols scale) p (length acc₀) g)
 
 abbrev μ-loop : tie.MeasureT-loop
-μ-loop acc₀ u n cols scale g p₀ acc p = length cols - p
+μ-loop acc₀ matrix n cols scale g p₀ acc p = length cols - p
 
 clear-requires : tie.Need-clear-requires Inv-loop μ-loop
 clear-requires c κs = search needs
@@ -35,7 +35,7 @@ loop-holds c =
     let l : c .next-live .result ≤ length (a .cols .now) = rw (← at-start .pre .1) (c .next-live .ensures .inside (omega arith)) in (
       l,
       refl,
-      times-passed (a .u .now) (a .n) (a .cols .now) (a .scale .now) (a .g .now) _ (at-start .pre .0) 0 _ _ _
+      times-passed (a .matrix .now) (a .n) (a .cols .now) (a .scale .now) (a .g .now) _ (at-start .pre .0) 0 _ _ _
           (rw (at-clear .clear .kept .0) (at-clear .clear .ensures)) (c .next-live .ensures) l,
     )
 
@@ -80,12 +80,12 @@ loop-again c =
     let here : q ≤ length (a .cols .now) = omega (arith, c .before .before .before .before .before .if1 .taken) in
     let l : c .next-live3 .result ≤ length (a .cols .now) = rw (← at-start .pre .1)
     (c .next-live3 .ensures .inside (omega (arith, c .before .before .before .before .before .if1 .taken, at-start .pre .1))) in
-    let two = at-add-two-at .add-two-at .ensures ∙ two-added (a .u .now) (a .n) (a .cols .now) (a .scale .now) (a .g .now) _
+    let two = at-add-two-at .add-two-at .ensures ∙ two-added (a .matrix .now) (a .n) (a .cols .now) (a .scale .now) (a .g .now) _
     (at-start .pre .0) (at-loop .loop .p) q (at-loop .loop .acc) _ (at-loop .loop .inv .2)
     (at-next-live2 .next-live2 .ensures) here in (
       l,
       at-add-two-at .add-two-at .kept .0 ∙ at-loop .loop .inv .1,
-      times-passed (a .u .now) (a .n) (a .cols .now) (a .scale .now) (a .g .now) _ (at-start .pre .0) (q + 1) _ _ _ two
+      times-passed (a .matrix .now) (a .n) (a .cols .now) (a .scale .now) (a .g .now) _ (at-start .pre .0) (q + 1) _ _ _ two
           (c .next-live3 .ensures) l,
     )
 
@@ -109,11 +109,11 @@ loop-again-2 c =
     let l : at-next-live2 .next-live2 .result ≤ length (a .cols .now) = rw (← at-start .pre .1)
     (at-next-live2 .next-live2 .ensures .inside
     (omega (arith, c .before .before .before .before .before .before .loop-test .taken, at-start .pre .1))) in
-    let one = at-add-one-at .add-one-at .ensures ∙ one-added (a .u .now) (a .n) (a .cols .now) (a .scale .now) (a .g .now) _
+    let one = at-add-one-at .add-one-at .ensures ∙ one-added (a .matrix .now) (a .n) (a .cols .now) (a .scale .now) (a .g .now) _
     (at-start .pre .0) (at-loop .loop .p) (at-loop .loop .acc) _ (at-loop .loop .inv .2) in (
       l,
       at-add-one-at .add-one-at .kept .0 ∙ at-loop .loop .inv .1,
-      times-passed (a .u .now) (a .n) (a .cols .now) (a .scale .now) (a .g .now) _ (at-start .pre .0) (at-loop .loop .p + 1) _ _
+      times-passed (a .matrix .now) (a .n) (a .cols .now) (a .scale .now) (a .g .now) _ (at-start .pre .0) (at-loop .loop .p + 1) _ _
           _ one (at-next-live2 .next-live2 .ensures) l,
     )
 

@@ -29,8 +29,8 @@ returns : tie.Need-returns
 returns c =
     let at-start = c .before .before .before .before .before .before .before .before .before .before in
     let a = at-start .args in
-    all-blocked _ _ (a .num .now) (a .blocked .now) _ (c .before .worst .result)
-    (worst-is (entryOf (a .u .now) (a .n) (a .cols .now) (a .scale .now)) (length (a .cols .now)) (a .num .now)
+    all-blocked _ _ (a .numbers .now) (a .blocked .now) _ (c .before .worst .result)
+    (worst-is (entryOf (a .matrix .now) (a .n) (a .cols .now) (a .scale .now)) (length (a .cols .now)) (a .numbers .now)
     (a .blocked .now) (a .count) _ (omega arith) (c .before .worst .ensures)) (c .if1 .taken)
 
 same-length-3 : tie.Need-same-length-3
@@ -42,7 +42,7 @@ same-length-4 c = search needs
 returns-2 : tie.Need-returns-2
 returns-2 c =
     let a = c .before .before .before .before .before .before .before .before .before .before .before .args in
-    basis-full _ _ (a .num .now) (a .blocked .now) _ (c .before .before .worst .result) (c .if2 .taken)
+    basis-full _ _ (a .numbers .now) (a .blocked .now) _ (c .before .before .worst .result) (c .if2 .taken)
 
 mul-blocked : tie.Need-mul-blocked
 mul-blocked c = search needs
@@ -72,7 +72,7 @@ block-row-requires : tie.Need-block-row-requires
 block-row-requires c κs =
     let a = c .before .before .before .before .before .before .before .before .before .before .before .before .before .args in
     let p = c .before .before .before .before .before .before .before .before .before .before .before .before .before .pre in
-    (chosen-own (p .0), p .1, rest-room _ _ (a .num .now) (omega arith), p .3)
+    (chosen-own (p .0), p .1, rest-room _ _ (a .numbers .now) (omega arith), p .3)
 
 same-length-5 : tie.Need-same-length-5
 same-length-5 c = search needs
@@ -91,10 +91,10 @@ returns-3 c =
     let at-worst = at-if1 .before in
     let at-start = at-worst .before .before .before .before .before .before .before .before .before in
     let a = at-start .args in
-    let e = entryOf (a .u .now) (a .n) (a .cols .now) (a .scale .now) in
-    blocks e (length (a .cols .now)) (a .num .now) (a .blocked .now) (a .count) (at-worst .worst .result)
+    let e = entryOf (a .matrix .now) (a .n) (a .cols .now) (a .scale .now) in
+    blocks e (length (a .cols .now)) (a .numbers .now) (a .blocked .now) (a .count) (at-worst .worst .result)
     (at-block-row .block-row .result) (at-block-row .block-row .last .0)
-    (worst-is e (length (a .cols .now)) (a .num .now) (a .blocked .now) (a .count) _ (omega arith) (at-worst .worst .ensures))
+    (worst-is e (length (a .cols .now)) (a .numbers .now) (a .blocked .now) (a .count) _ (omega arith) (at-worst .worst .ensures))
     (at-if1 .if1 .left) (at-if2 .if2 .left) (omega arith) (at-block-row .block-row .ensures)
 
 pub block-worst-spec : {M : Type 1} → statement M

@@ -14,16 +14,16 @@ use Rattle.freeze.proofs.freeze.Statement.{statement}
 use Rattle.freeze.proofs.freeze.Tie as tie
 
 abbrev Inv-loop : tie.InvT-loop
-Inv-loop num₀ blocked₀ x₀ free₀ u n cols scale v₀ count₀ frozen₀ p₀ num blocked x free v count frozen p =
-    Freezing (entryOf u n cols scale) (length cols) num₀ blocked₀ x₀ free₀ v₀ count₀ frozen₀ num blocked x free v count frozen p
+Inv-loop numbers₀ blocked₀ x₀ free₀ matrix n cols scale v₀ count₀ frozen₀ p₀ numbers blocked x free v count frozen p =
+    Freezing (entryOf matrix n cols scale) (length cols) numbers₀ blocked₀ x₀ free₀ v₀ count₀ frozen₀ numbers blocked x free v count frozen p
 
 abbrev μ-loop : tie.MeasureT-loop
-μ-loop num₀ blocked₀ x₀ free₀ u n cols scale v₀ count₀ frozen₀ p₀ num blocked x free v count frozen p = length cols - p
+μ-loop numbers₀ blocked₀ x₀ free₀ matrix n cols scale v₀ count₀ frozen₀ p₀ numbers blocked x free v count frozen p = length cols - p
 
 loop-holds : tie.Need-loop-holds Inv-loop μ-loop
 loop-holds c =
     let a = c .before .before .before .before .before .before .before .before .args in
-    freezing-start _ _ (a .num .now) (a .blocked .now) (a .x .now) (a .free .now) (a .v .now) _ _
+    freezing-start _ _ (a .numbers .now) (a .blocked .now) (a .x .now) (a .free .now) (a .v .now) _ _
     (c .before .before .before .before .before .before .before .before .pre .1)
 
 mul-if1 : tie.Need-mul-if1 Inv-loop μ-loop
@@ -64,26 +64,26 @@ loop-again c =
     let at-start = at-loop .before .before .before .before .before .before .before .before .before in
     let a = at-start .args in
     let s = at-loop .loop in
-    let e = entryOf (a .u .now) (a .n) (a .cols .now) (a .scale .now) in
+    let e = entryOf (a .matrix .now) (a .n) (a .cols .now) (a .scale .now) in
     let l = length (a .cols .now) in
     ⊎-elim
     (λ w. rw (w .20, w .21, w .22, w .23, w .24, w .25, w .26)
-    (freezing-one e l (a .num .now) (a .blocked .now) (a .x .now) (a .free .now) (a .v .now)
-    (a .from .count) (a .from .frozen) (s .num) (s .blocked) (s .x) (s .free) (s .v)
+    (freezing-one e l (a .numbers .now) (a .blocked .now) (a .x .now) (a .free .now) (a .v .now)
+    (a .from .count) (a .from .frozen) (s .numbers) (s .blocked) (s .x) (s .free) (s .v)
     (s .count) (s .frozen) (s .p) (s .inv) (at-loop-test .loop-test .taken) _ _ _ _ _ _
-    (freezes-near (s .num) (s .blocked) (s .x) (s .free) (s .count) (s .frozen) (s .p) (w .2 .result) (w .0 .taken) (w .2 .ensures) (w .3 .taken))
+    (freezes-near (s .numbers) (s .blocked) (s .x) (s .free) (s .count) (s .frozen) (s .p) (w .2 .result) (w .0 .taken) (w .2 .ensures) (w .3 .taken))
     (w .9 .kept .0) (w .9 .kept .1 .1 .0) (w .9 .kept .1 .1 .1 .0) (w .9 .kept .1 .1 .1 .1 .0) (w .9 .kept .1 .1 .1 .1 .1 .1 .1 .1 .1 .1 .0) (w .9 .ensures)))
     (⊎-elim
     (λ w. rw (w .4, w .5, w .6, w .7, w .8, w .9, w .10)
-    (freezing-none e l (a .num .now) (a .blocked .now) (a .x .now) (a .free .now) (a .v .now)
-    (a .from .count) (a .from .frozen) (s .num) (s .blocked) (s .x) (s .free) (s .v)
+    (freezing-none e l (a .numbers .now) (a .blocked .now) (a .x .now) (a .free .now) (a .v .now)
+    (a .from .count) (a .from .frozen) (s .numbers) (s .blocked) (s .x) (s .free) (s .v)
     (s .count) (s .frozen) (s .p) (s .inv) (at-loop-test .loop-test .taken)
-    (freezes-far (s .num) (s .blocked) (s .x) (s .free) (s .count) (s .frozen) (s .p) (w .2 .result) (w .0 .taken) (w .2 .ensures) (w .3 .left))))
+    (freezes-far (s .numbers) (s .blocked) (s .x) (s .free) (s .count) (s .frozen) (s .p) (w .2 .result) (w .0 .taken) (w .2 .ensures) (w .3 .left))))
     (λ w. rw (w .1, w .2, w .3, w .4, w .5, w .6, w .7)
-    (freezing-none e l (a .num .now) (a .blocked .now) (a .x .now) (a .free .now) (a .v .now)
-    (a .from .count) (a .from .frozen) (s .num) (s .blocked) (s .x) (s .free) (s .v)
+    (freezing-none e l (a .numbers .now) (a .blocked .now) (a .x .now) (a .free .now) (a .v .now)
+    (a .from .count) (a .from .frozen) (s .numbers) (s .blocked) (s .x) (s .free) (s .v)
     (s .count) (s .frozen) (s .p) (s .inv) (at-loop-test .loop-test .taken)
-    (freezes-not (s .num) (s .blocked) (s .x) (s .free) (s .count) (s .frozen) (s .p) (w .0 .left)))))
+    (freezes-not (s .numbers) (s .blocked) (s .x) (s .free) (s .count) (s .frozen) (s .p) (w .0 .left)))))
     (c .if1 .came)
 
 same-length : tie.Need-same-length Inv-loop μ-loop
@@ -107,9 +107,9 @@ returns c =
     let a = at-start .args in
     let s = c .before .loop in
     let done : s .p ≡ length (a .cols .now) = omega (arith, s .inv .upto) in
-    λ rng. s .inv .holds rng ∙ ap (freezeTo plusZero (entryOf (a .u .now) (a .n) (a .cols .now) (a .scale .now))
+    λ rng. s .inv .holds rng ∙ ap (freezeTo plusZero (entryOf (a .matrix .now) (a .n) (a .cols .now) (a .scale .now))
     (length (a .cols .now)) (length (a .blocked .now))
-    (held (a .num .now) (a .blocked .now) (a .x .now) (a .free .now) (a .from .count) (a .from .frozen) rng)) done
+    (held (a .numbers .now) (a .blocked .now) (a .x .now) (a .free .now) (a .from .count) (a .from .frozen) rng)) done
 
 pub freeze-spec : {M : Type 1} → statement M
 freeze-spec =

@@ -63,7 +63,7 @@ block-worst-requires c κs =
     let at-start = at-axis-into .before .before .before .before .before .before .before .before .before .before .before .before in
     let a = at-start .args in
     let p = at-start .pre in
-    let r = room-after (entryOf (a .u .now) (a .n) (a .cols .now) (a .scale .now)) (length (a .cols .now)) (a .num .now)
+    let r = room-after (entryOf (a .matrix .now) (a .n) (a .cols .now) (a .scale .now)) (length (a .cols .now)) (a .numbers .now)
     (a .blocked .now) (a .x .now) (a .free .now) (a .count) (a .p) (at-insert .insert .result) 0 nan
     (at-insert .insert .last .0) [] [] (p .1) (at-axis-into .axis-into .last .0) (at-insert .insert .kept .0)
     (at-insert .insert .ensures) in
@@ -93,7 +93,7 @@ returns c =
     let at-start = at-signum .before .before .before .before .before .before .before .before .before .before in
     let a = at-start .args in
     let p = at-start .pre in
-    freezes-at (entryOf (a .u .now) (a .n) (a .cols .now) (a .scale .now)) (length (a .cols .now)) (a .num .now) (a .blocked .now)
+    freezes-at (entryOf (a .matrix .now) (a .n) (a .cols .now) (a .scale .now)) (length (a .cols .now)) (a .numbers .now) (a .blocked .now)
     (a .x .now) (a .free .now) (a .count) (a .p) (at-insert .insert .result) (at-block-worst .block-worst .result)
     (at-signum .signum .result) (at-insert .insert .last .0) (at-block-worst .block-worst .last .0)
     (at-block-worst .block-worst .last .1 .1 .0) (p .1)

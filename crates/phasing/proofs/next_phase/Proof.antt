@@ -167,8 +167,8 @@ returns c = λ d.
     let start = at-free-places .before .before .before .before .before .before .before .before .before .before .before .before
     .before .before .before .before in
     let a = start .args in
-    phase-rounds (entryOf (a .u .now) (a .n) (a .cols .now) (a .scale .now)) (length (a .cols .now)) (length (a .blocked .now))
-    (a .rng) (a .num .now) (a .x .now) (a .free .now) _ _ _ _ _
+    phase-rounds (entryOf (a .matrix .now) (a .n) (a .cols .now) (a .scale .now)) (length (a .cols .now)) (length (a .blocked .now))
+    (a .rng) (a .numbers .now) (a .x .now) (a .free .now) _ _ _ _ _
     (at-free-places .free-places .ensures .front ∙ ap (keep (isSet (a .free .now))) (start .pre .0 .1 .marks))
     (at-phase-on .phase-on .ensures) d _ _ (at-if1 .if1 .taken) (at-round-free .round-free .ensures)
     (c .before .before .fill-words .ensures)
@@ -215,8 +215,8 @@ returns-2 c = λ d.
     let start = at-free-places .before .before .before .before .before .before .before .before .before .before .before .before
     .before .before .before .before in
     let a = start .args in
-    phase-goes (entryOf (a .u .now) (a .n) (a .cols .now) (a .scale .now)) (length (a .cols .now)) (length (a .blocked .now))
-    (a .rng) (a .num .now) (a .x .now) (a .free .now) _ _ _ _ _
+    phase-goes (entryOf (a .matrix .now) (a .n) (a .cols .now) (a .scale .now)) (length (a .cols .now)) (length (a .blocked .now))
+    (a .rng) (a .numbers .now) (a .x .now) (a .free .now) _ _ _ _ _
     (at-free-places .free-places .ensures .front ∙ ap (keep (isSet (a .free .now))) (start .pre .0 .1 .marks))
     (at-phase-on .phase-on .ensures) d (c .if1 .left)
 

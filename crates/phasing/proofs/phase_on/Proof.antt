@@ -35,7 +35,7 @@ phase-requires c κs =
     let lc = at-choose-words .choose-words .kept .0 ∙ start .pre .1 .0 in
     let lx = at-choose2 .choose2 .kept .0 ∙ start .pre .1 .2 in (
       rw (at-choose-words .choose-words .ensures, at-choose .choose .ensures)
-          (chosen-part (a .u .now) (a .n) (a .cols .now) (a .scale .now) (a .places .now) _ (start .pre .0 .0) (start .pre .0 .2)
+          (chosen-part (a .matrix .now) (a .n) (a .cols .now) (a .scale .now) (a .places .now) _ (start .pre .0 .0) (start .pre .0 .2)
           (start .pre .0 .3)),
       rw lc (roomy-part _ (length (a .places .now)) _ _ _ _ _ _ (start .pre .0 .1) (start .pre .0 .3) lx (start .pre .1 .3)),
       start .pre .1 .4 ∙ sym lc,
@@ -97,8 +97,8 @@ returns c =
     let at-choose = at-choose2 .before .before .before .before .before in
     let at-choose-words = at-choose .before .before .before .before in
     let a = at-choose-words .before .before .before .before .before .before .before .before .before .before .before .before .before .before .before .args in
-    phased-at (a .u .now) (a .n) (a .cols .now) (a .scale .now) (a .places .now) (length (a .blocked .now)) (a .rng)
-    (a .num .now) (a .x .now) (a .free .now)
+    phased-at (a .matrix .now) (a .n) (a .cols .now) (a .scale .now) (a .places .now) (length (a .blocked .now)) (a .rng)
+    (a .numbers .now) (a .x .now) (a .free .now)
     _ _ _ (at-choose-words .choose-words .ensures) (at-choose .choose .ensures) (at-choose2 .choose2 .ensures)
     (at-phase .phase .ensures) (at-phase .phase .kept .1 .0)
     (at-put-back .put-back .ensures) (at-put-back-words .put-back-words .ensures)

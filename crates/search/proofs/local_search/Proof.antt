@@ -13,12 +13,12 @@ use Rattle.search.proofs.local_search.Statement.{statement}
 use Rattle.search.proofs.local_search.Tie as tie
 
 abbrev Inv-loop : tie.InvT-loop
-Inv-loop ax₀ x₀ u n cols scale best₀ k₀ ax x best k =
+Inv-loop ax₀ x₀ matrix n cols scale best₀ k₀ ax x best k =
     (k ≤ 100) × (length ax ≡ length ax₀) × (length x ≡ length x₀)
-    × (searched (entryOf u n cols scale) (length cols) x₀ ax₀ ≡ remaining (entryOf u n cols scale) (length cols) k x ax best)
+    × (searched (entryOf matrix n cols scale) (length cols) x₀ ax₀ ≡ remaining (entryOf matrix n cols scale) (length cols) k x ax best)
 
 abbrev μ-loop : tie.MeasureT-loop
-μ-loop ax₀ x₀ u n cols scale best₀ k₀ ax x best k = 100 - k
+μ-loop ax₀ x₀ matrix n cols scale best₀ k₀ ax x best k = 100 - k
 
 max-abs-requires : tie.Need-max-abs-requires Inv-loop μ-loop
 max-abs-requires c κs = search needs
@@ -48,7 +48,7 @@ returns c =
     let at-start = at-loop .before .before .before .before .before .before .before .before in
     let a = at-start .args in
     let l = at-loop .loop in
-    sym (l .inv .3 ∙ search-stop (entryOf (a .u .now) (a .n) (a .cols .now) (a .scale .now)) (length (a .cols .now)) (l .k) (l .x)
+    sym (l .inv .3 ∙ search-stop (entryOf (a .matrix .now) (a .n) (a .cols .now) (a .scale .now)) (length (a .cols .now)) (l .k) (l .x)
     (l .ax) (l .best) _ (at-loop-test .loop-test .taken) (at-sweep .sweep .ensures) (not-true _ (c .if1 .taken)))
 
 loop-less : tie.Need-loop-less Inv-loop μ-loop
@@ -65,7 +65,7 @@ loop-again c =
       omega arith,
       at-sweep .sweep .kept .0 ∙ l .inv .1,
       at-sweep .sweep .kept .1 .0 ∙ l .inv .2,
-      l .inv .3 ∙ search-turn (entryOf (a .u .now) (a .n) (a .cols .now) (a .scale .now)) (length (a .cols .now)) (l .k) (l .x)
+      l .inv .3 ∙ search-turn (entryOf (a .matrix .now) (a .n) (a .cols .now) (a .scale .now)) (length (a .cols .now)) (l .k) (l .x)
           (l .ax) (l .best) _ (at-loop-test .loop-test .taken) (at-sweep .sweep .ensures) (not-false _ (c .if1 .left)),
     )
 
@@ -79,7 +79,7 @@ returns-2 : tie.Need-returns-2 Inv-loop μ-loop
 returns-2 c =
     let a = c .before .before .before .before .before .before .before .before .before .args in
     let l = c .before .loop in
-    sym (l .inv .3 ∙ search-over (entryOf (a .u .now) (a .n) (a .cols .now) (a .scale .now)) (length (a .cols .now)) (l .k) (l .x)
+    sym (l .inv .3 ∙ search-over (entryOf (a .matrix .now) (a .n) (a .cols .now) (a .scale .now)) (length (a .cols .now)) (l .k) (l .x)
     (l .ax) (l .best) (omega arith))
 
 pub local-search-spec : {M : Type 1} → statement M

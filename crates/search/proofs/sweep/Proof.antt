@@ -13,12 +13,12 @@ use Rattle.search.proofs.sweep.Statement.{statement}
 use Rattle.search.proofs.sweep.Tie as tie
 
 abbrev Inv-loop : tie.InvT-loop
-Inv-loop ax₀ x₀ best u n cols scale at₀ j₀ ax x at j =
+Inv-loop ax₀ x₀ best matrix n cols scale at₀ j₀ ax x at j =
     (j ≤ length cols) × (length ax ≡ length ax₀) × (length x ≡ length x₀)
-    × (searchOf x ax at ≡ sweepTo (entryOf u n cols scale) (record { x = x₀; ax = ax₀; best = best; improved = false }) j)
+    × (searchOf x ax at ≡ sweepTo (entryOf matrix n cols scale) (record { x = x₀; ax = ax₀; best = best; improved = false }) j)
 
 abbrev μ-loop : tie.MeasureT-loop
-μ-loop ax₀ x₀ best u n cols scale at₀ j₀ ax x at j = length cols - j
+μ-loop ax₀ x₀ best matrix n cols scale at₀ j₀ ax x at j = length cols - j
 
 loop-holds : tie.Need-loop-holds Inv-loop μ-loop
 unfolding sweepTo
@@ -42,7 +42,8 @@ loop-again c =
       omega arith,
       c .before .before .before .before .try-flip .kept .0 ∙ l .inv .1,
       c .before .before .before .before .try-flip .kept .1 .0 ∙ l .inv .2,
-      sweep-turn (entryOf (a .u .now) (a .n) (a .cols .now) (a .scale .now)) _ _ _ (l .j) (l .inv .3) (c .before .before .before .before .try-flip .ensures),
+      sweep-turn (entryOf (a .matrix .now) (a .n) (a .cols .now) (a .scale .now)) _ _ _ (l .j) (l .inv .3)
+          (c .before .before .before .before .try-flip .ensures),
     )
 
 same-length : tie.Need-same-length Inv-loop μ-loop

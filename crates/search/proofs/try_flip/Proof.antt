@@ -104,7 +104,7 @@ returns c =
     let at-stays-below = at-if1 .before in
     let at-start = at-stays-below .before .before .before .before .before .before .before .before .before .before .before .before in
     let a = at-start .args in
-    turned-over (entryOf (a .u .now) (a .n) (a .cols .now) (a .scale .now) (a .j)) (a .j) (a .x .now) (a .ax .now) (a .from)
+    turned-over (entryOf (a .matrix .now) (a .n) (a .cols .now) (a .scale .now) (a .j)) (a .j) (a .x .now) (a .ax .now) (a .from)
     (at-stays-below .stays-below .result)
     (simp add-sub-cancel-left at (at-stays-below .stays-below .ensures)) (at-less-column .less-column .last .0) (c .max-abs .result) (at-if1 .if1 .taken)
     (simp add-sub-cancel-left at (at-less-column .less-column .ensures)) (c .max-abs .ensures)
@@ -115,7 +115,8 @@ same-length-3 c = search needs
 returns-2 : tie.Need-returns-2
 returns-2 c =
     let a = c .before .before .before .before .before .before .before .before .before .before .before .before .before .args in
-    left-alone (entryOf (a .u .now) (a .n) (a .cols .now) (a .scale .now) (a .j)) (a .j) (a .x .now) (a .ax .now) (a .from) (c .before .stays-below .result)
+    left-alone (entryOf (a .matrix .now) (a .n) (a .cols .now) (a .scale .now) (a .j)) (a .j) (a .x .now) (a .ax .now) (a .from)
+    (c .before .stays-below .result)
     (simp add-sub-cancel-left at (c .before .stays-below .ensures)) (c .if1 .left)
 
 pub try-flip-spec : {M : Type 1} → statement M

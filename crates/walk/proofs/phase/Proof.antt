@@ -23,7 +23,7 @@ steps-requires c κs =
     let a = at-start .args in
     let p = at-start .pre in (
       rw (at-begin .begin .kept .1 .0) (p .0),
-      start-room (entryOf (a .u .now) (a .n) (a .cols .now) (a .scale .now)) (length (a .cols .now)) (a .num .now)
+      start-room (entryOf (a .matrix .now) (a .n) (a .cols .now) (a .scale .now)) (length (a .cols .now)) (a .numbers .now)
           (a .blocked .now) (a .x .now) (a .free .now) (at-begin .begin .last .0) (at-begin .begin .last .1 .0)
           (at-fill-words .fill-words .last .0) (at-begin .begin .result) (p .1) (at-begin .begin .ensures)
           (at-begin .begin .kept .0) (at-begin .begin .kept .1 .0) (at-fill-words .fill-words .ensures),
@@ -54,7 +54,7 @@ returns c =
     let at-start = at-fill-words .before .before .before .before .before .before .before .before .before .before in
     let a = at-start .args in
     let p = at-start .pre in
-    phase-is (entryOf (a .u .now) (a .n) (a .cols .now) (a .scale .now)) (length (a .cols .now)) (a .num .now) (a .blocked .now)
+    phase-is (entryOf (a .matrix .now) (a .n) (a .cols .now) (a .scale .now)) (length (a .cols .now)) (a .numbers .now) (a .blocked .now)
     (a .x .now) (a .free .now) (at-begin .begin .last .0) (at-begin .begin .last .1 .0) (at-fill-words .fill-words .last .0)
     (at-begin .begin .result) (p .1) (at-begin .begin .ensures) (at-begin .begin .kept .0) (at-begin .begin .kept .1 .0)
     (at-fill-words .fill-words .ensures) (a .rng) (at-steps .steps .ensures)

@@ -21,7 +21,7 @@ mul-end c =
     let at-start = c .before .before .before .before .before .before .before .before in
     omega (
       arith,
-      vectors-room (length (at-start .args .cols .now)) (at-start .args .num .now) (at-start .args .blocked .now)
+      vectors-room (length (at-start .args .cols .now)) (at-start .args .numbers .now) (at-start .args .blocked .now)
           (at-start .args .x .now) (at-start .args .free .now) (at-start .args .from .count) (at-start .pre .1),
     )
 
@@ -30,7 +30,7 @@ add-end c =
     let at-start = c .before .before .before .before .before .before .before .before in
     omega (
       arith,
-      vectors-room (length (at-start .args .cols .now)) (at-start .args .num .now) (at-start .args .blocked .now)
+      vectors-room (length (at-start .args .cols .now)) (at-start .args .numbers .now) (at-start .args .blocked .now)
           (at-start .args .x .now) (at-start .args .free .now) (at-start .args .from .count) (at-start .pre .1),
     )
 
@@ -51,7 +51,7 @@ part-direct-end c =
     let at-start = c .before .before .before .before .before .before .before .before .before .before .before .before .before in
     omega (
       arith,
-      vectors-room (length (at-start .args .cols .now)) (at-start .args .num .now) (at-start .args .blocked .now)
+      vectors-room (length (at-start .args .cols .now)) (at-start .args .numbers .now) (at-start .args .blocked .now)
           (at-start .args .x .now) (at-start .args .free .now) (at-start .args .from .count) (at-start .pre .1),
     )
 
@@ -77,8 +77,8 @@ returns c =
     let l = length (a .cols .now) in
     let r = length (a .blocked .now) in
     let m = a .from .count * l in
-    let e = entryOf (a .u .now) (a .n) (a .cols .now) (a .scale .now) in
-    stops-short e l (a .num .now) (a .blocked .now) (a .x .now) (a .free .now) (a .from .count) (a .from .frozen)
+    let e = entryOf (a .matrix .now) (a .n) (a .cols .now) (a .scale .now) in
+    stops-short e l (a .numbers .now) (a .blocked .now) (a .x .now) (a .free .now) (a .from .count) (a .from .frozen)
     (a .from .rng) (r + r + r + m - (r + r + r)) (a .g .now) (at-draw-into .draw-into .last .0)
     (at-direct .direct .last .1 .1 .1 .1 .0) (at-direct .direct .result) (p .1) (omega arith) (p .2)
     (at-draw-into .draw-into .ensures .0) (at-direct .direct .ensures .0) (at-direct .direct .ensures .1) _ (c .if1 .taken)
@@ -116,8 +116,8 @@ returns-2 c =
     let l = length (a .cols .now) in
     let r = length (a .blocked .now) in
     let m = a .from .count * l in
-    let e = entryOf (a .u .now) (a .n) (a .cols .now) (a .scale .now) in
-    stops-nowhere e l (a .num .now) (a .blocked .now) (a .x .now) (a .free .now) (a .from .count) (a .from .frozen)
+    let e = entryOf (a .matrix .now) (a .n) (a .cols .now) (a .scale .now) in
+    stops-nowhere e l (a .numbers .now) (a .blocked .now) (a .x .now) (a .free .now) (a .from .count) (a .from .frozen)
     (a .from .rng) (r + r + r + m - (r + r + r)) (a .g .now) (at-draw-into .draw-into .last .0)
     (at-direct .direct .last .1 .1 .1 .1 .0) (at-direct .direct .result) (p .1) (omega arith) (p .2)
     (at-draw-into .draw-into .ensures .0) (at-direct .direct .ensures .0) (at-direct .direct .ensures .1)
@@ -174,8 +174,8 @@ returns-3 c =
     let l = length (a .cols .now) in
     let r = length (a .blocked .now) in
     let m = a .from .count * l in
-    let e = entryOf (a .u .now) (a .n) (a .cols .now) (a .scale .now) in
-    moves-on e l (a .num .now) (a .blocked .now) (a .x .now) (a .free .now) (a .from .count) (a .from .frozen)
+    let e = entryOf (a .matrix .now) (a .n) (a .cols .now) (a .scale .now) in
+    moves-on e l (a .numbers .now) (a .blocked .now) (a .x .now) (a .free .now) (a .from .count) (a .from .frozen)
     (a .from .rng) (r + r + r + m - (r + r + r)) (a .g .now) (at-draw-into .draw-into .last .0)
     (at-direct .direct .last .1 .1 .1 .1 .0) (at-direct .direct .result) (p .1) (omega arith) (p .2)
     (at-draw-into .draw-into .ensures .0) (at-direct .direct .ensures .0) (at-direct .direct .ensures .1)

@@ -12,19 +12,19 @@ use Rattle.walk.proofs.steps.Statement.{statement}
 use Rattle.walk.proofs.steps.Tie as tie
 
 abbrev Inv-loop : tie.InvT-loop
-Inv-loop num₀ blocked₀ x₀ free₀ u n cols scale g₀ at₀ directions₀ num blocked x free g at directions =
-    Going (entryOf u n cols scale) (length cols) num₀ blocked₀ x₀ free₀ g₀
-    (held num₀ blocked₀ x₀ free₀ (at₀ .count) (at₀ .frozen) (at₀ .rng)) num blocked x free g (at .count) (at .frozen)
+Inv-loop numbers₀ blocked₀ x₀ free₀ matrix n cols scale g₀ at₀ directions₀ numbers blocked x free g at directions =
+    Going (entryOf matrix n cols scale) (length cols) numbers₀ blocked₀ x₀ free₀ g₀
+    (held numbers₀ blocked₀ x₀ free₀ (at₀ .count) (at₀ .frozen) (at₀ .rng)) numbers blocked x free g (at .count) (at .frozen)
     (at .rng) directions
 
 abbrev μ-loop : tie.MeasureT-loop
-μ-loop num₀ blocked₀ x₀ free₀ u n cols scale g₀ at₀ directions₀ num blocked x free g at directions = freeOnes free
+μ-loop numbers₀ blocked₀ x₀ free₀ matrix n cols scale g₀ at₀ directions₀ numbers blocked x free g at directions = freeOnes free
 
 loop-holds : tie.Need-loop-holds Inv-loop μ-loop
 loop-holds c =
     let at-start = c .before .before .before .before .before .before .before .before in
     let a = at-start .args in
-    going-start (entryOf (a .u .now) (a .n) (a .cols .now) (a .scale .now)) (length (a .cols .now)) (a .num .now)
+    going-start (entryOf (a .matrix .now) (a .n) (a .cols .now) (a .scale .now)) (length (a .cols .now)) (a .numbers .now)
     (a .blocked .now) (a .x .now) (a .free .now) (a .g .now) (a .from .count) (a .from .frozen) (a .from .rng)
     (at-start .pre .1) (at-start .pre .3)
 
@@ -64,9 +64,9 @@ returns c =
     let at-start = at-loop .before .before .before .before .before .before .before .before .before in
     let a = at-start .args in
     let s = at-loop .loop in
-    let w = held (a .num .now) (a .blocked .now) (a .x .now) (a .free .now) (a .from .count) (a .from .frozen) (a .from .rng) in
-    going-last (entryOf (a .u .now) (a .n) (a .cols .now) (a .scale .now)) (length (a .cols .now)) (a .num .now) (a .blocked .now)
-    (a .x .now) (a .free .now) (a .g .now) w (s .num) (s .blocked) (s .x) (s .free) (s .g) (s .at .count) (s .at .frozen)
+    let w = held (a .numbers .now) (a .blocked .now) (a .x .now) (a .free .now) (a .from .count) (a .from .frozen) (a .from .rng) in
+    going-last (entryOf (a .matrix .now) (a .n) (a .cols .now) (a .scale .now)) (length (a .cols .now)) (a .numbers .now) (a .blocked .now)
+    (a .x .now) (a .free .now) (a .g .now) w (s .numbers) (s .blocked) (s .x) (s .free) (s .g) (s .at .count) (s .at .frozen)
     (s .at .rng) (s .directions) (s .inv) (at-step .step .last .0) (at-step .step .last .1 .0) (at-step .step .last .1 .1 .0)
     (at-step .step .last .1 .1 .1 .0) (at-step .step .result) (at-if1 .if1 .taken) (at-step .step .ensures)
     (not-true _ (c .if2 .taken))
@@ -79,9 +79,9 @@ loop-less c =
     let at-start = at-loop .before .before .before .before .before .before .before .before .before in
     let a = at-start .args in
     let s = at-loop .loop in
-    let w = held (a .num .now) (a .blocked .now) (a .x .now) (a .free .now) (a .from .count) (a .from .frozen) (a .from .rng) in
-    fewer-free (entryOf (a .u .now) (a .n) (a .cols .now) (a .scale .now)) (length (a .cols .now)) (a .num .now) (a .blocked .now)
-    (a .x .now) (a .free .now) (a .g .now) w (s .num) (s .blocked) (s .x) (s .free) (s .g) (s .at .count) (s .at .frozen)
+    let w = held (a .numbers .now) (a .blocked .now) (a .x .now) (a .free .now) (a .from .count) (a .from .frozen) (a .from .rng) in
+    fewer-free (entryOf (a .matrix .now) (a .n) (a .cols .now) (a .scale .now)) (length (a .cols .now)) (a .numbers .now) (a .blocked .now)
+    (a .x .now) (a .free .now) (a .g .now) w (s .numbers) (s .blocked) (s .x) (s .free) (s .g) (s .at .count) (s .at .frozen)
     (s .at .rng) (s .directions) (s .inv) (at-step .step .last .0) (at-step .step .last .1 .0) (at-step .step .last .1 .1 .0)
     (at-step .step .last .1 .1 .1 .0) (at-step .step .result) (at-if1 .if1 .taken) (at-step .step .ensures)
     (not-false _ (c .if2 .left))
@@ -94,9 +94,9 @@ loop-again c =
     let at-start = at-loop .before .before .before .before .before .before .before .before .before in
     let a = at-start .args in
     let s = at-loop .loop in
-    let w = held (a .num .now) (a .blocked .now) (a .x .now) (a .free .now) (a .from .count) (a .from .frozen) (a .from .rng) in
-    going-on (entryOf (a .u .now) (a .n) (a .cols .now) (a .scale .now)) (length (a .cols .now)) (a .num .now) (a .blocked .now)
-    (a .x .now) (a .free .now) (a .g .now) w (s .num) (s .blocked) (s .x) (s .free) (s .g) (s .at .count) (s .at .frozen)
+    let w = held (a .numbers .now) (a .blocked .now) (a .x .now) (a .free .now) (a .from .count) (a .from .frozen) (a .from .rng) in
+    going-on (entryOf (a .matrix .now) (a .n) (a .cols .now) (a .scale .now)) (length (a .cols .now)) (a .numbers .now) (a .blocked .now)
+    (a .x .now) (a .free .now) (a .g .now) w (s .numbers) (s .blocked) (s .x) (s .free) (s .g) (s .at .count) (s .at .frozen)
     (s .at .rng) (s .directions) (s .inv) (at-step .step .last .0) (at-step .step .last .1 .0) (at-step .step .last .1 .1 .0)
     (at-step .step .last .1 .1 .1 .0) (at-step .step .result) (at-if1 .if1 .taken) (at-step .step .ensures)
     (at-step .step .last .1 .1 .1 .1 .1 .1 .1 .1 .1 .0) (not-false _ (c .if2 .left)) (at-step .step .kept .0)
@@ -124,9 +124,9 @@ returns-2 c =
     let at-start = at-loop .before .before .before .before .before .before .before .before .before in
     let a = at-start .args in
     let s = at-loop .loop in
-    let w = held (a .num .now) (a .blocked .now) (a .x .now) (a .free .now) (a .from .count) (a .from .frozen) (a .from .rng) in
-    going-full (entryOf (a .u .now) (a .n) (a .cols .now) (a .scale .now)) (length (a .cols .now)) (a .num .now) (a .blocked .now)
-    (a .x .now) (a .free .now) (a .g .now) w (s .num) (s .blocked) (s .x) (s .free) (s .g) (s .at .count) (s .at .frozen)
+    let w = held (a .numbers .now) (a .blocked .now) (a .x .now) (a .free .now) (a .from .count) (a .from .frozen) (a .from .rng) in
+    going-full (entryOf (a .matrix .now) (a .n) (a .cols .now) (a .scale .now)) (length (a .cols .now)) (a .numbers .now) (a .blocked .now)
+    (a .x .now) (a .free .now) (a .g .now) w (s .numbers) (s .blocked) (s .x) (s .free) (s .g) (s .at .count) (s .at .frozen)
     (s .at .rng) (s .directions) (s .inv) (c .if1 .left) _ refl refl refl refl
 
 pub steps-spec : {M : Type 1} → statement M
