@@ -18,18 +18,19 @@ fn turn_downhill(
     numbers: &mut [f64],
     rows: usize,
     matrix: &[f64],
+    bits: &[u8],
     n: usize,
     cols: &[u32],
     scale: &[f64],
     g: &mut [f64],
 )
-    requires { ⌜ Chosen (now matrix) n (now cols) (now scale) rows × (length (now g) ≡ length (now cols))
+    requires { ⌜ Chosen (now matrix) (now bits) n (now cols) (now scale) rows × (length (now g) ≡ length (now cols))
         × (rows + rows ≤ length (now numbers)) ⌝ }
-    ensures { λ _. ⌜ Downhill (entryOf (now (matrix .entry)) n (now (cols .entry)) (now (scale .entry))) rows
+    ensures { λ _. ⌜ Downhill (entryOf (now (matrix .entry)) (now (bits .entry)) n (now (cols .entry)) (now (scale .entry))) rows
         (now (numbers .entry)) (now (g .entry)) (now (numbers .exit)) (now (g .exit)) ⌝ }
 {
     let to = rows + rows;
-    times_into(&mut numbers[rows..to], matrix, n, cols, scale, &g[..]);
+    times_into(&mut numbers[rows..to], matrix, bits, n, cols, scale, &g[..]);
     let all = &numbers[..];
     let uphill = dot(&all[0..rows], &all[rows..to]) > 0.0;
     turn_if(&mut g[..], uphill);
@@ -43,18 +44,19 @@ pub fn advance(
     x: &mut [f64],
     free: &[u32],
     matrix: &[f64],
+    bits: &[u8],
     n: usize,
     cols: &[u32],
     scale: &[f64],
     g: &mut [f64],
 ) -> bool
-    requires { ⌜ Chosen (now matrix) n (now cols) (now scale) rows × (length (now g) ≡ length (now cols))
+    requires { ⌜ Chosen (now matrix) (now bits) n (now cols) (now scale) rows × (length (now g) ≡ length (now cols))
         × (length (now x) ≡ length (now cols))
         × (length (now free) ≡ length (now cols)) × (rows + rows ≤ length (now numbers)) ⌝ }
-    ensures { λ r. ⌜ Advanced (entryOf (now (matrix .entry)) n (now (cols .entry)) (now (scale .entry))) rows
+    ensures { λ r. ⌜ Advanced (entryOf (now (matrix .entry)) (now (bits .entry)) n (now (cols .entry)) (now (scale .entry))) rows
         (now (numbers .entry)) (now (x .entry)) (now (free .entry)) (now (g .entry)) r (now (numbers .exit)) (now (x .exit)) ⌝ }
 {
-    turn_downhill(numbers, rows, matrix, n, cols, scale, &mut g[..]);
+    turn_downhill(numbers, rows, matrix, bits, n, cols, scale, &mut g[..]);
     let t = reach(&x[..], &g[..], free);
     if !is_finite(t) {
         return false;

@@ -61,9 +61,11 @@ fn thin_item(
     if number != 0 {
         return refused(number);
     }
+    let none = [0u8; 0];
     let mut start = [0.0f64; 256];
     thin_sound(
         matrix,
+        &none[..],
         n,
         weights,
         &mut start[..m],

@@ -17,16 +17,18 @@ fn block_first(
     blocked: &mut [u32],
     first: &[u32],
     matrix: &[f64],
+    bits: &[u8],
     n: usize,
     cols: &[u32],
     scale: &[f64],
     v: &mut [f64],
 ) -> usize
-    requires { ⌜ Chosen (now matrix) n (now cols) (now scale) (length (now blocked)) × (length (now v) ≡ length (now cols)) × (length
+    requires { ⌜ Chosen (now matrix) (now bits) n (now cols) (now scale) (length (now blocked)) × (length (now v) ≡ length (now cols))
+        × (length
         (now blocked) + length (now blocked) + length (now blocked) + length (now cols) * length (now cols) ≤ length
         (now numbers)) × (now blocked ≡ repeated 0 (length (now blocked))) ⌝ }
     requires { ⌜ ((k : ℕ) → k < length (now first) → getD (now first) k 0 < length (now blocked)) ⌝ }
-    ensures { λ r. ⌜ BlockedFirst (entryOf (now (matrix .entry)) n (now (cols .entry)) (now (scale .entry)))
+    ensures { λ r. ⌜ BlockedFirst (entryOf (now (matrix .entry)) (now (bits .entry)) n (now (cols .entry)) (now (scale .entry)))
         (length (now (cols .entry))) (now (first .entry)) (now (numbers .entry)) (length (now (blocked .entry))) r
         (now (numbers .exit)) (now (blocked .exit)) ⌝ }
 {
@@ -41,6 +43,7 @@ fn block_first(
             count,
             i,
             matrix,
+            bits,
             n,
             cols,
             scale,
@@ -56,15 +59,17 @@ pub fn begin(
     numbers: &mut [f64],
     blocked: &mut [u32],
     matrix: &[f64],
+    bits: &[u8],
     n: usize,
     cols: &[u32],
     scale: &[f64],
     v: &mut [f64],
 ) -> usize
-    requires { ⌜ Chosen (now matrix) n (now cols) (now scale) (length (now blocked)) × (length (now v) ≡ length (now cols)) × (length
+    requires { ⌜ Chosen (now matrix) (now bits) n (now cols) (now scale) (length (now blocked)) × (length (now v) ≡ length (now cols))
+        × (length
         (now blocked) + length (now blocked) + length (now blocked) + length (now cols) * length (now cols) ≤ length
         (now numbers)) ⌝ }
-    ensures { λ r. ⌜ Begun (entryOf (now (matrix .entry)) n (now (cols .entry)) (now (scale .entry)))
+    ensures { λ r. ⌜ Begun (entryOf (now (matrix .entry)) (now (bits .entry)) n (now (cols .entry)) (now (scale .entry)))
         (length (now (cols .entry))) (now (numbers .entry)) (length (now (blocked .entry))) r (now (numbers .exit))
         (now (blocked .exit)) ⌝ }
 {
@@ -73,9 +78,19 @@ pub fn begin(
     let to = from + rows;
     let quarter = cols.len() / 4;
     let mut first = [0u32; 64];
-    norms_into(&mut numbers[from..to], matrix, n, cols, scale);
+    norms_into(&mut numbers[from..to], matrix, bits, n, cols, scale);
     let all = &numbers[..];
     let k = first_rows(&mut first[..quarter], &all[0..rows], &all[from..to]);
     clear_words(&mut blocked[..]);
-    block_first(numbers, blocked, &first[..k], matrix, n, cols, scale, v)
+    block_first(
+        numbers,
+        blocked,
+        &first[..k],
+        matrix,
+        bits,
+        n,
+        cols,
+        scale,
+        v,
+    )
 }

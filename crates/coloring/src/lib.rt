@@ -56,15 +56,17 @@ fn walk_to_end(
     x: &mut [f64],
     free: &mut [u32],
     matrix: &[f64],
+    bits: &[u8],
     n: usize,
     cols: &[u32],
     scale: &[f64],
     rng: SplitMix64,
 ) -> Drawn
-    requires { ⌜ Chosen (now matrix) n (now cols) (now scale) (length (now blocked)) × Roomy (length (now cols)) (now numbers)
+    requires { ⌜ Chosen (now matrix) (now bits) n (now cols) (now scale) (length (now blocked)) × Roomy (length (now cols)) (now numbers)
         (now blocked) (now x) (now free) 0 × Fresh (length (now cols)) (length (now blocked)) (now numbers) (now x) (now free) ⌝ }
     ensures { λ r. ⌜ between (length (now (blocked .entry))) (now (numbers .exit)) (now (x .exit)) (now (free .exit))
-        (r .rng) (r .directions) ≡ walked plusZero (entryOf (now (matrix .entry)) n (now (cols .entry)) (now (scale .entry)))
+        (r .rng) (r .directions) ≡ walked plusZero (entryOf (now (matrix .entry)) (now (bits .entry)) n (now (cols .entry))
+        (now (scale .entry)))
         (length (now (cols .entry))) (length (now (blocked .entry))) rng ⌝ }
 {
     let mut places = [0u32; 256];
@@ -83,6 +85,7 @@ fn walk_to_end(
             x,
             free,
             matrix,
+            bits,
             n,
             cols,
             scale,
@@ -109,22 +112,24 @@ fn walk_anew(
     x: &mut [f64],
     free: &mut [u32],
     matrix: &[f64],
+    bits: &[u8],
     n: usize,
     cols: &[u32],
     scale: &[f64],
     rng: SplitMix64,
 ) -> Drawn
-    requires { ⌜ Chosen (now matrix) n (now cols) (now scale) (length (now blocked)) × Roomy (length (now cols)) (now numbers)
+    requires { ⌜ Chosen (now matrix) (now bits) n (now cols) (now scale) (length (now blocked)) × Roomy (length (now cols)) (now numbers)
         (now blocked) (now x) (now free) 0 ⌝ }
     ensures { λ r. ⌜ between (length (now (blocked .entry))) (now (numbers .exit)) (now (x .exit)) (now (free .exit))
-        (r .rng) (r .directions) ≡ walked plusZero (entryOf (now (matrix .entry)) n (now (cols .entry)) (now (scale .entry)))
+        (r .rng) (r .directions) ≡ walked plusZero (entryOf (now (matrix .entry)) (now (bits .entry)) n (now (cols .entry))
+        (now (scale .entry)))
         (length (now (cols .entry))) (length (now (blocked .entry))) rng ⌝ }
 {
     let rows = blocked.len();
     clear(&mut x[..]);
     clear(&mut numbers[..rows]);
     fill_words(&mut free[..], 1);
-    walk_to_end(numbers, blocked, x, free, matrix, n, cols, scale, rng)
+    walk_to_end(numbers, blocked, x, free, matrix, bits, n, cols, scale, rng)
 }
 
 // Local search from the colours x, with A x anew; how many sweeps.
@@ -132,23 +137,26 @@ fn search_anew(
     ax: &mut [f64],
     x: &mut [f64],
     matrix: &[f64],
+    bits: &[u8],
     n: usize,
     cols: &[u32],
     scale: &[f64],
 ) -> usize
-    requires { ⌜ Chosen (now matrix) n (now cols) (now scale) (length (now ax)) × (length (now x) ≡ length (now cols)) ⌝ }
-    ensures { λ r. ⌜ searchedIn (now (x .exit)) r ≡ searched (entryOf (now (matrix .entry)) n (now (cols .entry)) (now (scale .entry)))
+    requires { ⌜ Chosen (now matrix) (now bits) n (now cols) (now scale) (length (now ax)) × (length (now x) ≡ length (now cols)) ⌝ }
+    ensures { λ r. ⌜ searchedIn (now (x .exit)) r ≡ searched
+        (entryOf (now (matrix .entry)) (now (bits .entry)) n (now (cols .entry)) (now (scale .entry)))
         (length (now (cols .entry))) (now (x .entry)) (times plusZero
-        (entryOf (now (matrix .entry)) n (now (cols .entry)) (now (scale .entry))) (length (now (cols .entry)))
+        (entryOf (now (matrix .entry)) (now (bits .entry)) n (now (cols .entry)) (now (scale .entry))) (length (now (cols .entry)))
         (length (now (ax .entry))) (now (x .entry))) ⌝ }
 {
-    times_into(&mut ax[..], matrix, n, cols, scale, &x[..]);
-    local_search(ax, x, matrix, n, cols, scale)
+    times_into(&mut ax[..], matrix, bits, n, cols, scale, &x[..]);
+    local_search(ax, x, matrix, bits, n, cols, scale)
 }
 
 // Colours the columns, 1.0 or -1.0 each, into x. blocked is as long as there are rows.
 pub fn coloring(
     matrix: &[f64],
+    bits: &[u8],
     n: usize,
     cols: &[u32],
     scale: &[f64],
@@ -157,11 +165,12 @@ pub fn coloring(
     blocked: &mut [u32],
     rng: SplitMix64,
 ) -> Counted
-    requires { ⌜ Chosen (now matrix) n (now cols) (now scale) (length (now blocked)) × (length (now x) ≡ length (now cols)) × (length
+    requires { ⌜ Chosen (now matrix) (now bits) n (now cols) (now scale) (length (now blocked)) × (length (now x) ≡ length (now cols))
+        × (length
         (now blocked) + length (now blocked) + length (now blocked) + length (now cols) * length (now cols) ≤ length
         (now numbers)) ⌝ }
     ensures { λ r. ⌜ ColoredAs (now (x .exit)) r (coloringOf plusZero
-        (entryOf (now (matrix .entry)) n (now (cols .entry)) (now (scale .entry))) (length (now (cols .entry)))
+        (entryOf (now (matrix .entry)) (now (bits .entry)) n (now (cols .entry)) (now (scale .entry))) (length (now (cols .entry)))
         (length (now (blocked .entry))) rng) ⌝ }
 {
     let k = cols.len();
@@ -173,12 +182,13 @@ pub fn coloring(
         &mut x[..],
         &mut free[..k],
         matrix,
+        bits,
         n,
         cols,
         scale,
         rng,
     );
-    let sweeps = search_anew(&mut numbers[..rows], x, matrix, n, cols, scale);
+    let sweeps = search_anew(&mut numbers[..rows], x, matrix, bits, n, cols, scale);
     let r = w.rng;
     Counted {
         directions: w.directions,

@@ -18,7 +18,7 @@ ghost use Rattle.coloring.specs.Coloring.{coloringOf};
 ghost use Rattle.coloring.specs.Fresh.{ColoredAs};
 ghost use Rattle.draw.specs.SplitMix.{seeded};
 ghost use Rattle.limits.specs.Limits.{bounded};
-ghost use Rattle.limits.specs.Matrix.{columnsOf};
+ghost use Rattle.limits.specs.Reading.{readOf, Whole};
 ghost use Rattle.discrepancy.specs.Discrepancy.{mostEntry, coloringFault, colourAt, DiscrepancyColored};
 
 // The answer of a colouring: 0 or the number of a refusal, how many directions were drawn, and how many sweeps made.
@@ -71,6 +71,7 @@ fn count_up(a: &mut [u32])
 // Colours all m columns into x. The matrix is read as it is: every scale is 1.0.
 fn color_all(
     matrix: &[f64],
+    bits: &[u8],
     m: usize,
     n: usize,
     seed: u64,
@@ -78,9 +79,11 @@ fn color_all(
     numbers: &mut [f64],
     indices: &mut [u32],
 ) -> Counted
-    requires { ⌜ (length (now matrix) ≡ m * n) × (m ≤ 256) × (n ≤ 4096) × (length (now x) ≡ m) × (n + n + n + m * m ≤ length (now numbers))
+    requires { ⌜ Whole (now matrix) (now bits) m n × (m ≤ 256) × (n ≤ 4096) × (length (now x) ≡ m)
+        × (n + n + n + m * m ≤ length (now numbers))
         × (n ≤ length (now indices)) × (bounded mostEntry (now matrix) ≡ true) ⌝ }
-    ensures { λ r. ⌜ ColoredAs (now (x .exit)) r (coloringOf plusZero (columnsOf (now (matrix .entry)) n) m n (seeded seed 1)) ⌝ }
+    ensures { λ r. ⌜ ColoredAs (now (x .exit)) r (coloringOf plusZero (readOf (now (matrix .entry)) (now (bits .entry)) n) m n
+        (seeded seed 1)) ⌝ }
 {
     let mut cols = [0u32; 256];
     let mut scale = [0.0f64; 256];
@@ -88,6 +91,7 @@ fn color_all(
     fill(&mut scale[..m], 1.0);
     coloring(
         matrix,
+        bits,
         n,
         &cols[..m],
         &scale[..m],
@@ -132,9 +136,11 @@ pub fn discrepancy_coloring(
             sweeps: 0,
         };
     }
+    let none = [0u8; 0];
     let mut x = [0.0f64; 256];
     let c = color_all(
         matrix,
+        &none[..],
         m,
         n,
         seed,

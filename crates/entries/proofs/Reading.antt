@@ -1,34 +1,34 @@
--- Laws of an entry: within a column it is scaled, under it stands |s|; and one column more of a sum by rows.
-use Prim.Native.Nat.{ℕ, _+_, _*_, _≤_, _<_}
-use mathlib.Core.Path.{_≡_, ap, _∙_}
+-- Laws of an entry: within a column it is scaled, under it stands |s|, and of bits each has the scale's square; and one column more of a sum by rows.
+use borrow.Author.Tests.{lt-ltb, le-ltb}
+use Prim.Native.Nat.{ℕ, _+_, _≤_, _<_}
+use mathlib.Core.Path.{_≡_, sym}
 use mathlib.Core.List.{List}
-use native.Mathlib.Omega.{arith}
+use lib.Dec.{T}
 use lib.ListN.{length, getD}
-use lib.Ieee.{Float, nan, binary64, add, mul}
-use Rattle.seq.specs.Lists.{tabulate, part}
-use Rattle.seq.specs.Sums.{sumTo, at}
+use lib.Ieee.{Float, nan, binary64, add, mul, fits}
+use Rattle.seq.specs.Lists.{tabulate, repeated}
+use Rattle.seq.specs.Sums.{sumTo, at, product}
 use Rattle.seq.proofs.Filling.{length-tab, getD-tab, tab-cong}
-use Rattle.seq.proofs.Parts.{length-part, getD-part}
-use Rattle.seq.proofs.Summing.{sum-more}
+use Rattle.seq.proofs.Summing.{sum-more, sum-cong}
 use Rattle.ieee.specs.Magnitude.{absOf}
-use Rattle.columns.proofs.Scaled.{scaled-own, scaled-under}
+use Rattle.limits.specs.Reading.{readOf}
+use Rattle.reading.proofs.Lent.{votes-square}
 use Rattle.entries.specs.Entries.{entryOf}
+use Rattle.entries.specs.Rows.{rowNorms}
 
-module _ (matrix : List Float) (n : ℕ) (cols : List ℕ) (scale : List Float) (p i : ℕ) (inside : getD cols p 0 * n + n ≤ length matrix) where
-  abbrev column : List Float
-  column = part (getD cols p 0 * n) n matrix
+module _ (matrix : List Float) (bits : List ℕ) (n : ℕ) (cols : List ℕ) (scale : List Float) (p i : ℕ) where
+  pub entry-own : i < n → entryOf matrix bits n cols scale p i ≡ mul binary64 (readOf matrix bits n (getD cols p 0) i) (at scale p)
+  entry-own h = rw (lt-ltb i n h)
 
-  long : length column ≡ n
-  long = length-part (getD cols p 0 * n) n matrix inside
+  pub entry-under : n ≤ i → entryOf matrix bits n cols scale p i ≡ absOf (at scale p)
+  entry-under h = rw (le-ltb i n h)
 
-  -- the same of a column that is chosen from matrix
-  pub entry-own : i < n → entryOf matrix n cols scale p i ≡ mul binary64 (at matrix (getD cols p 0 * n + i)) (at scale p)
-  entry-own h =
-      scaled-own column (at scale p) i (omega (arith, long))
-      ∙ ap (λ (x : Float). mul binary64 x (at scale p)) (getD-part (getD cols p 0 * n) n i matrix nan h)
-
-  pub entry-under : n ≤ i → entryOf matrix n cols scale p i ≡ absOf (at scale p)
-  entry-under h = scaled-under column (at scale p) i (omega (arith, long))
+-- of bits every row has the same norm
+pub same-norms : (z : Float) (matrix : List Float) (bits : List ℕ) (n : ℕ) (cols : List ℕ) (scale : List Float) (l k : ℕ) → 0 < length bits
+    → ((p : ℕ) → T (fits binary64 (at scale p)))
+    → repeated (sumTo z (product scale scale) l) k ≡ rowNorms z (entryOf matrix bits n cols scale) l k
+same-norms z matrix bits n cols scale l k some known =
+    tab-cong _ _ k (λ i h. sum-cong binary64 z _ _ l (λ p g. sym (votes-square matrix bits n (getD cols p 0) (at scale p) (known p) some i)))
 
 -- n sums by rows over p columns become those over p + 1 where each row takes one term more
 pub one-more : (z : Float) (f : ℕ → ℕ → Float) (acc : List Float) (p n : ℕ)

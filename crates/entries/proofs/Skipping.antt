@@ -66,9 +66,9 @@ passed-more {scale} {g} {from} {p} s h z e =
     at-most k l (inl o) = rw o (zero-is (at g p) z, is (finite (at scale p)) e)
     at-most k l (inr o) = s .nothing k l o
 
-module _ (matrix : List Float) (n : ℕ) (cols : List ℕ) (scale g : List Float) (rows : ℕ) (c : Chosen matrix n cols scale rows) where
+module _ (matrix : List Float) (bits : List ℕ) (n : ℕ) (cols : List ℕ) (scale g : List Float) (rows : ℕ) (c : Chosen matrix bits n cols scale rows) where
   abbrev a : ℕ → ℕ → Float
-  a = entryOf matrix n cols scale
+  a = entryOf matrix bits n cols scale
 
   abbrev term : ℕ → ℕ → Float
   term i q = mul binary64 (a q i) (at g q)

@@ -1,11 +1,14 @@
-// How an entry is read: a column is chosen from the matrix and scaled; what it then does to a vector is in the crate columns.
-use columns::add_column;
+// How an entry is read: a column is chosen from the matrix and scaled; what it then does to a vector is in the crate reading.
 use columns::add_squares;
-use columns::add_two;
-use ieee::abs;
 use ieee::is_finite;
+use linear::dot;
+use reading::add_column_of;
+use reading::add_two_of;
+use reading::entry_of;
 use seq::clear;
+use seq::fill;
 ghost use mathlib.Core.Path.{_≡_};
+ghost use mathlib.Core.List.{[]};
 ghost use Prim.Native.Nat.{_<_};
 ghost use lib.ListN.{length};
 ghost use Rattle.seq.specs.Lists.{tabulate};
@@ -17,28 +20,39 @@ ghost use Rattle.columns.specs.Kernels.{plusColumn, plusColumns};
 ghost use Rattle.entries.specs.PassedOver.{PassedOver};
 
 // The entry at row i of column p.
-fn entry(matrix: &[f64], n: usize, cols: &[u32], scale: &[f64], p: usize, i: usize) -> f64
-    requires { ⌜ Chosen (now matrix) n (now cols) (now scale) n × (p < length (now cols)) ⌝ }
-    ensures { λ r. ⌜ r ≡ entryOf (now (matrix .entry)) n (now (cols .entry)) (now (scale .entry)) p i ⌝ }
+fn entry(
+    matrix: &[f64],
+    bits: &[u8],
+    n: usize,
+    cols: &[u32],
+    scale: &[f64],
+    p: usize,
+    i: usize,
+) -> f64
+    requires { ⌜ Chosen (now matrix) (now bits) n (now cols) (now scale) n × (p < length (now cols)) ⌝ }
+    ensures { λ r. ⌜ r ≡ entryOf (now (matrix .entry)) (now (bits .entry)) n (now (cols .entry)) (now (scale .entry)) p i ⌝ }
 {
-    let s = scale[p];
-    if i < n {
-        let at = (cols[p] as usize) * n + i;
-        matrix[at] * s
-    } else {
-        abs(s)
-    }
+    let c = cols[p] as usize;
+    entry_of(matrix, bits, n, c, scale[p], i)
 }
 
 // Row i, an entry for each column.
-pub fn row_into(v: &mut [f64], matrix: &[f64], n: usize, cols: &[u32], scale: &[f64], i: usize)
-    requires { ⌜ Chosen (now matrix) n (now cols) (now scale) n × (length (now v) ≡ length (now cols)) ⌝ }
-    ensures { λ _. ⌜ now (v .exit) ≡ rowOf (entryOf (now (matrix .entry)) n (now (cols .entry)) (now (scale .entry)))
+pub fn row_into(
+    v: &mut [f64],
+    matrix: &[f64],
+    bits: &[u8],
+    n: usize,
+    cols: &[u32],
+    scale: &[f64],
+    i: usize,
+)
+    requires { ⌜ Chosen (now matrix) (now bits) n (now cols) (now scale) n × (length (now v) ≡ length (now cols)) ⌝ }
+    ensures { λ _. ⌜ now (v .exit) ≡ rowOf (entryOf (now (matrix .entry)) (now (bits .entry)) n (now (cols .entry)) (now (scale .entry)))
         (length (now (cols .entry))) i ⌝ }
 {
     let mut p = 0usize;
     while p < v.len() {
-        v[p] = entry(matrix, n, cols, scale, p, i);
+        v[p] = entry(matrix, bits, n, cols, scale, p, i);
         p += 1;
     }
 }
@@ -66,27 +80,28 @@ fn next_live(scale: &[f64], g: &[f64], from: usize) -> usize
 fn add_one_at(
     acc: &mut [f64],
     matrix: &[f64],
+    bits: &[u8],
     n: usize,
     cols: &[u32],
     scale: &[f64],
     g: &[f64],
     p: usize,
 )
-    requires { ⌜ Chosen (now matrix) n (now cols) (now scale) (length (now acc)) × (length (now g) ≡ length (now cols)) ×
+    requires { ⌜ Chosen (now matrix) (now bits) n (now cols) (now scale) (length (now acc)) × (length (now g) ≡ length (now cols)) ×
         (p < length (now cols)) ⌝ }
     ensures { λ _. ⌜ now (acc .exit) ≡ tabulate (plusColumn
-        (entryOf (now (matrix .entry)) n (now (cols .entry)) (now (scale .entry)) p) (at (now (g .entry)) p)
+        (entryOf (now (matrix .entry)) (now (bits .entry)) n (now (cols .entry)) (now (scale .entry)) p) (at (now (g .entry)) p)
         (now (acc .entry))) (length (now (acc .entry))) ⌝ }
 {
-    let a = (cols[p] as usize) * n;
-    let e = a + n;
-    add_column(acc, &matrix[a..e], scale[p], g[p]);
+    let c = cols[p] as usize;
+    add_column_of(acc, matrix, bits, n, c, scale[p], g[p]);
 }
 
 // acc plus columns p and q, in order.
 fn add_two_at(
     acc: &mut [f64],
     matrix: &[f64],
+    bits: &[u8],
     n: usize,
     cols: &[u32],
     scale: &[f64],
@@ -94,34 +109,32 @@ fn add_two_at(
     p: usize,
     q: usize,
 )
-    requires { ⌜ Chosen (now matrix) n (now cols) (now scale) (length (now acc)) × (length (now g) ≡ length (now cols))
+    requires { ⌜ Chosen (now matrix) (now bits) n (now cols) (now scale) (length (now acc)) × (length (now g) ≡ length (now cols))
         × (p < length (now cols))
         × (q < length (now cols)) ⌝ }
     ensures { λ _. ⌜ now (acc .exit) ≡ tabulate (plusColumns
-        (entryOf (now (matrix .entry)) n (now (cols .entry)) (now (scale .entry)) p) (at (now (g .entry)) p)
-        (entryOf (now (matrix .entry)) n (now (cols .entry)) (now (scale .entry)) q) (at (now (g .entry)) q)
+        (entryOf (now (matrix .entry)) (now (bits .entry)) n (now (cols .entry)) (now (scale .entry)) p) (at (now (g .entry)) p)
+        (entryOf (now (matrix .entry)) (now (bits .entry)) n (now (cols .entry)) (now (scale .entry)) q) (at (now (g .entry)) q)
         (now (acc .entry))) (length (now (acc .entry))) ⌝ }
 {
-    let a = (cols[p] as usize) * n;
-    let e = a + n;
-    let b = (cols[q] as usize) * n;
-    let f = b + n;
-    add_two(
-        acc,
-        &matrix[a..e],
-        scale[p],
-        g[p],
-        &matrix[b..f],
-        scale[q],
-        g[q],
-    );
+    let c = cols[p] as usize;
+    let d = cols[q] as usize;
+    add_two_of(acc, matrix, bits, n, c, scale[p], g[p], d, scale[q], g[q]);
 }
 
 // The matrix times g, two columns at a time, without those that add nothing; each row's sum is in the columns' order.
-pub fn times_into(acc: &mut [f64], matrix: &[f64], n: usize, cols: &[u32], scale: &[f64], g: &[f64])
-    requires { ⌜ Chosen (now matrix) n (now cols) (now scale) (length (now acc)) × (length (now g) ≡ length (now cols)) ⌝ }
+pub fn times_into(
+    acc: &mut [f64],
+    matrix: &[f64],
+    bits: &[u8],
+    n: usize,
+    cols: &[u32],
+    scale: &[f64],
+    g: &[f64],
+)
+    requires { ⌜ Chosen (now matrix) (now bits) n (now cols) (now scale) (length (now acc)) × (length (now g) ≡ length (now cols)) ⌝ }
     ensures { λ _. ⌜ now (acc .exit) ≡ times plusZero
-        (entryOf (now (matrix .entry)) n (now (cols .entry)) (now (scale .entry))) (length (now (cols .entry)))
+        (entryOf (now (matrix .entry)) (now (bits .entry)) n (now (cols .entry)) (now (scale .entry))) (length (now (cols .entry)))
         (length (now (acc .entry))) (now (g .entry)) ⌝ }
 {
     clear(&mut acc[..]);
@@ -129,20 +142,20 @@ pub fn times_into(acc: &mut [f64], matrix: &[f64], n: usize, cols: &[u32], scale
     while p < cols.len() {
         let q = next_live(scale, g, p + 1);
         if q < cols.len() {
-            add_two_at(&mut acc[..], matrix, n, cols, scale, g, p, q);
+            add_two_at(&mut acc[..], matrix, bits, n, cols, scale, g, p, q);
             p = next_live(scale, g, q + 1);
         } else {
-            add_one_at(&mut acc[..], matrix, n, cols, scale, g, p);
+            add_one_at(&mut acc[..], matrix, bits, n, cols, scale, g, p);
             p = q;
         }
     }
 }
 
-// The sums of the rows' squares.
-pub fn norms_into(acc: &mut [f64], matrix: &[f64], n: usize, cols: &[u32], scale: &[f64])
-    requires { ⌜ Chosen (now matrix) n (now cols) (now scale) (length (now acc)) ⌝ }
+// The sums of the rows' squares, of doubles.
+fn norms_of_doubles(acc: &mut [f64], matrix: &[f64], n: usize, cols: &[u32], scale: &[f64])
+    requires { ⌜ Chosen (now matrix) [] n (now cols) (now scale) (length (now acc)) ⌝ }
     ensures { λ _. ⌜ now (acc .exit) ≡ rowNorms plusZero
-        (entryOf (now (matrix .entry)) n (now (cols .entry)) (now (scale .entry))) (length (now (cols .entry)))
+        (entryOf (now (matrix .entry)) [] n (now (cols .entry)) (now (scale .entry))) (length (now (cols .entry)))
         (length (now (acc .entry))) ⌝ }
 {
     clear(&mut acc[..]);
@@ -153,5 +166,26 @@ pub fn norms_into(acc: &mut [f64], matrix: &[f64], n: usize, cols: &[u32], scale
         let s = scale[p];
         add_squares(&mut acc[..], &matrix[a..e], s);
         p += 1;
+    }
+}
+
+// The sums of the rows' squares. Of bits every row has the same.
+pub fn norms_into(
+    acc: &mut [f64],
+    matrix: &[f64],
+    bits: &[u8],
+    n: usize,
+    cols: &[u32],
+    scale: &[f64],
+)
+    requires { ⌜ Chosen (now matrix) (now bits) n (now cols) (now scale) (length (now acc)) ⌝ }
+    ensures { λ _. ⌜ now (acc .exit) ≡ rowNorms plusZero
+        (entryOf (now (matrix .entry)) (now (bits .entry)) n (now (cols .entry)) (now (scale .entry))) (length (now (cols .entry)))
+        (length (now (acc .entry))) ⌝ }
+{
+    if bits.len() == 0 {
+        norms_of_doubles(acc, matrix, n, cols, scale);
+    } else {
+        fill(acc, dot(scale, scale));
     }
 }

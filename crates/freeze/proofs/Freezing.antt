@@ -28,7 +28,8 @@ use Rattle.draw.specs.declared.SplitMix64.{SplitMix64}
 use Rattle.draw.specs.SplitMix.{seeded}
 
 -- columns that are chosen for some rows are chosen for n
-pub chosen-own : {matrix : List Float} {n : ℕ} {cols : List ℕ} {scale : List Float} {rows : ℕ} → Chosen matrix n cols scale rows → Chosen matrix n cols scale n
+pub chosen-own : {matrix : List Float} {bits : List ℕ} {n : ℕ} {cols : List ℕ} {scale : List Float} {rows : ℕ} → Chosen matrix bits n cols scale rows
+    → Chosen matrix bits n cols scale n
 chosen-own c =
     record { low = omega arith; high = omega arith; short = omega arith; few = c .few; paired = c .paired; inside = c .inside; sound = c .sound }
 

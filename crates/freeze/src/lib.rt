@@ -32,19 +32,21 @@ pub fn block_row(
     count: usize,
     i: usize,
     matrix: &[f64],
+    bits: &[u8],
     n: usize,
     cols: &[u32],
     scale: &[f64],
     v: &mut [f64],
 ) -> usize
-    requires { ⌜ Chosen (now matrix) n (now cols) (now scale) n × (length (now v) ≡ length (now cols)) ×
+    requires { ⌜ Chosen (now matrix) (now bits) n (now cols) (now scale) n × (length (now v) ≡ length (now cols)) ×
         (length (now cols) * length (now cols) ≤ length (now basis))
         × (count ≤ length (now cols)) ⌝ }
     ensures { λ r. ⌜ Inserted plusZero count (length (now (cols .entry))) (now (basis .entry))
-        (rowOf (entryOf (now (matrix .entry)) n (now (cols .entry)) (now (scale .entry))) (length (now (cols .entry))) i) r
+        (rowOf (entryOf (now (matrix .entry)) (now (bits .entry)) n (now (cols .entry)) (now (scale .entry)))
+        (length (now (cols .entry))) i) r
         (now (basis .exit)) ⌝ }
 {
-    row_into(&mut v[..], matrix, n, cols, scale, i);
+    row_into(&mut v[..], matrix, bits, n, cols, scale, i);
     insert(basis, count, cols.len(), v)
 }
 
@@ -54,15 +56,17 @@ fn block_worst(
     count: usize,
     blocked: &mut [u32],
     matrix: &[f64],
+    bits: &[u8],
     n: usize,
     cols: &[u32],
     scale: &[f64],
     v: &mut [f64],
 ) -> usize
-    requires { ⌜ Chosen (now matrix) n (now cols) (now scale) (length (now blocked)) × (length (now v) ≡ length (now cols)) × (length
+    requires { ⌜ Chosen (now matrix) (now bits) n (now cols) (now scale) (length (now blocked)) × (length (now v) ≡ length (now cols))
+        × (length
         (now blocked) + length (now blocked) + length (now blocked) + length (now cols) * length (now cols) ≤ length
         (now numbers)) × (count ≤ length (now cols)) ⌝ }
-    ensures { λ r. ⌜ Blocked (entryOf (now (matrix .entry)) n (now (cols .entry)) (now (scale .entry)))
+    ensures { λ r. ⌜ Blocked (entryOf (now (matrix .entry)) (now (bits .entry)) n (now (cols .entry)) (now (scale .entry)))
         (length (now (cols .entry))) (now (numbers .entry)) (now (blocked .entry)) count r (now (numbers .exit))
         (now (blocked .exit)) ⌝ }
 {
@@ -76,7 +80,17 @@ fn block_worst(
     }
     blocked[i] = 1;
     let base = rows + rows + rows;
-    block_row(&mut numbers[base..], count, i, matrix, n, cols, scale, v)
+    block_row(
+        &mut numbers[base..],
+        count,
+        i,
+        matrix,
+        bits,
+        n,
+        cols,
+        scale,
+        v,
+    )
 }
 
 // Freezes coordinate p; the new count.
@@ -88,16 +102,17 @@ fn freeze_at(
     free: &mut [u32],
     p: usize,
     matrix: &[f64],
+    bits: &[u8],
     n: usize,
     cols: &[u32],
     scale: &[f64],
     v: &mut [f64],
 ) -> usize
-    requires { ⌜ Chosen (now matrix) n (now cols) (now scale) (length (now blocked)) × Roomy (length (now cols)) (now numbers)
+    requires { ⌜ Chosen (now matrix) (now bits) n (now cols) (now scale) (length (now blocked)) × Roomy (length (now cols)) (now numbers)
         (now blocked) (now x) (now free) count × (length (now v) ≡ length (now cols)) × (p < length (now cols)) ⌝ }
     ensures { λ r. ⌜ ((frozen : ℕ) (rng : SplitMix64) → held (now (numbers .exit)) (now (blocked .exit)) (now (x .exit))
         (now (free .exit)) r
-        (frozen + 1) rng ≡ frozenAt plusZero (entryOf (now (matrix .entry)) n (now (cols .entry)) (now (scale .entry)))
+        (frozen + 1) rng ≡ frozenAt plusZero (entryOf (now (matrix .entry)) (now (bits .entry)) n (now (cols .entry)) (now (scale .entry)))
         (length (now (cols .entry))) (length (now (blocked .entry)))
         (held (now (numbers .entry)) (now (blocked .entry)) (now (x .entry)) (now (free .entry)) count frozen rng) p) ⌝ }
 {
@@ -106,7 +121,7 @@ fn freeze_at(
     axis_into(&mut v[..], p);
     let base = blocked.len() + blocked.len() + blocked.len();
     let c = insert(&mut numbers[base..], count, cols.len(), &mut v[..]);
-    block_worst(numbers, c, blocked, matrix, n, cols, scale, v)
+    block_worst(numbers, c, blocked, matrix, bits, n, cols, scale, v)
 }
 
 // How many vectors the basis has, and how many coordinates froze in this phase.
@@ -123,16 +138,17 @@ pub fn freeze(
     x: &mut [f64],
     free: &mut [u32],
     matrix: &[f64],
+    bits: &[u8],
     n: usize,
     cols: &[u32],
     scale: &[f64],
     v: &mut [f64],
 ) -> Frozen
-    requires { ⌜ Chosen (now matrix) n (now cols) (now scale) (length (now blocked)) × Roomy (length (now cols)) (now numbers)
+    requires { ⌜ Chosen (now matrix) (now bits) n (now cols) (now scale) (length (now blocked)) × Roomy (length (now cols)) (now numbers)
         (now blocked) (now x) (now free) (from .count) × (length (now v) ≡ length (now cols)) × (from .frozen ≤ 256) ⌝ }
     ensures { λ r. ⌜ ((rng : SplitMix64) → held (now (numbers .exit)) (now (blocked .exit)) (now (x .exit)) (now (free .exit))
         (r .count) (r .frozen) rng ≡ freezeTo plusZero
-        (entryOf (now (matrix .entry)) n (now (cols .entry)) (now (scale .entry))) (length (now (cols .entry)))
+        (entryOf (now (matrix .entry)) (now (bits .entry)) n (now (cols .entry)) (now (scale .entry))) (length (now (cols .entry)))
         (length (now (blocked .entry))) (held (now (numbers .entry)) (now (blocked .entry)) (now (x .entry))
         (now (free .entry)) (from .count) (from .frozen) rng) (length (now (cols .entry)))) ⌝ }
 {
@@ -150,6 +166,7 @@ pub fn freeze(
                     free,
                     p,
                     matrix,
+                    bits,
                     n,
                     cols,
                     scale,

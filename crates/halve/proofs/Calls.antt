@@ -19,10 +19,11 @@ pub remaining-below : (w : List Float) (rest : List ℕ) (n : ℕ) → Below res
 remaining-below w rest n b = record { below = λ p l. every-at (every-those {P = λ j. j < n} (isOn w) rest (length rest) (b .below)) p l .1 }
 
 -- the remaining rest, as it stands at the front of a buffer, with scratch as long
-pub lent : {matrix : List Float} {n : ℕ} {w numbers : List Float} {indices rest : List ℕ} {k : ℕ} {some : List ℕ} {scale x : List Float} {blocked : List ℕ}
-    → Ready matrix n w numbers indices → Below rest (length w) → length rest ≤ length w → Pushed (remaining w rest) k some
-    → length scale ≡ k → length x ≡ k → length blocked ≡ n + 1 → Equipped matrix n w (take k some) scale x numbers blocked
-lent {matrix} {n} {w} {numbers} {indices} {rest} {k} {some} r b s p es ex eb =
+pub lent : {matrix : List Float} {bits : List ℕ} {n : ℕ} {w numbers : List Float} {indices rest : List ℕ} {k : ℕ} {some : List ℕ}
+    {scale x : List Float} {blocked : List ℕ}
+    → Ready matrix bits n w numbers indices → Below rest (length w) → length rest ≤ length w → Pushed (remaining w rest) k some
+    → length scale ≡ k → length x ≡ k → length blocked ≡ n + 1 → Equipped matrix bits n w (take k some) scale x numbers blocked
+lent {matrix} {bits} {n} {w} {numbers} {indices} {rest} {k} {some} r b s p es ex eb =
     let long : length (take k some) ≡ k = length-take-le k some (p .within) in
     let fewer : k ≤ length w = omega (arith, p .long, those-short (isOn w) rest (length rest)) in
     record {
@@ -38,8 +39,9 @@ lent {matrix} {n} {w} {numbers} {indices} {rest} {k} {some} r b s p es ex eb =
     }
 
 -- after a call that keeps the lengths
-pub ready-still : {matrix : List Float} {n : ℕ} {w numbers w' numbers' : List Float} {indices indices' : List ℕ} → Ready matrix n w numbers indices
-    → length w' ≡ length w → length numbers' ≡ length numbers → length indices' ≡ length indices → Ready matrix n w' numbers' indices'
+pub ready-still : {matrix : List Float} {bits : List ℕ} {n : ℕ} {w numbers w' numbers' : List Float} {indices indices' : List ℕ}
+    → Ready matrix bits n w numbers indices
+    → length w' ≡ length w → length numbers' ≡ length numbers → length indices' ≡ length indices → Ready matrix bits n w' numbers' indices'
 ready-still r ew en ei =
     record {
       whole = rw ew (r .whole);

@@ -1,7 +1,7 @@
 -- The columns that a colouring is handed are those of the definition: read through the indices of the remaining rest and their scales, a matrix of n rows
 -- and the row under them have the same entries, so that the colours are the same.
 use borrow.Author.Tests.{lt-ltb, le-ltb, eq-eqb, ne-eqb}
-use Prim.Native.Nat.{ℕ, suc, _+_, _*_, _≤_, _<_}
+use Prim.Native.Nat.{ℕ, suc, _+_, _≤_, _<_}
 use mathlib.Core.Path.{_≡_, ap, _∙_}
 use mathlib.Core.List.{List}
 use native.Mathlib.Omega.{arith}
@@ -11,13 +11,14 @@ use lib.ListN.{length, getD}
 use lib.Ieee.{Float, nan}
 use Rattle.seq.specs.Lists.{tabulate}
 use Rattle.seq.specs.Sums.{plusZero, at}
-use Rattle.seq.proofs.Filling.{room, getD-tab}
+use Rattle.seq.proofs.Filling.{getD-tab}
 use Rattle.entries.specs.Entries.{entryOf}
 use Rattle.entries.proofs.Reading.{entry-own, entry-under}
 use Rattle.coloring.specs.Coloring.{Colored, coloringOf}
 use Rattle.coloring.proofs.SameColumns.{coloring-same}
 use Rattle.coloring.proofs.Counts.{directions-most, sweeps-few}
-use Rattle.limits.specs.Matrix.{columnsOf}
+use Rattle.limits.specs.Reading.{readOf, Lies, Whole}
+use Rattle.limits.proofs.Spare.{whole-lies}
 use Rattle.doubling.specs.Doubling.{remaining, scaleAt, sigmaOf, halvedTo}
 use Rattle.halve.specs.Halve.{Halved, scaledColumns, halvedBy, halvedOnce}
 use Rattle.halve.specs.Handed.{Countable}
@@ -25,42 +26,42 @@ use Rattle.coloring.specs.Fresh.{ColoredAs}
 use Rattle.coloring.specs.declared.Counted.{Counted}
 use Rattle.draw.specs.declared.SplitMix64.{SplitMix64}
 
-module _ (matrix : List Float) (n : ℕ) (w : List Float) (ω : Float) (r : List ℕ) (whole : length matrix ≡ length w * n)
+module _ (matrix : List Float) (bits : List ℕ) (n : ℕ) (w : List Float) (ω : Float) (r : List ℕ) (whole : Whole matrix bits (length w) n)
     (inside : (p : ℕ) → p < length r → getD r p 0 < length w) where
   abbrev scales : List Float
   scales = tabulate (scaleAt w ω r) (length r)
 
   -- each column lies in the matrix
-  pub column-inside : (p : ℕ) → p < length r → getD r p 0 * n + n ≤ length matrix
-  column-inside p l = rw whole (room (getD r p 0) (length w) n (inside p l))
+  pub column-inside : (p : ℕ) → p < length r → Lies matrix bits n (getD r p 0)
+  column-inside p l = whole-lies whole (getD r p 0) (inside p l)
 
-  entry-same : (p i : ℕ) → p < length r → i < suc n → entryOf matrix n r scales p i ≡ scaledColumns (columnsOf matrix n) n w ω r p i
+  entry-same : (p i : ℕ) → p < length r → i < suc n → entryOf matrix bits n r scales p i ≡ scaledColumns (readOf matrix bits n) n w ω r p i
   entry-same p i l g = go (decLt i n)
     where
       own : at scales p ≡ scaleAt w ω r p
       own = getD-tab (scaleAt w ω r) (length r) p nan l
 
-      go : Dec (i < n) → entryOf matrix n r scales p i ≡ scaledColumns (columnsOf matrix n) n w ω r p i
-      go (yes h) = entry-own matrix n r scales p i (column-inside p l) h ∙ rw (lt-ltb i n h, own)
+      go : Dec (i < n) → entryOf matrix bits n r scales p i ≡ scaledColumns (readOf matrix bits n) n w ω r p i
+      go (yes h) = entry-own matrix bits n r scales p i h ∙ rw (lt-ltb i n h, own)
       go (no h) =
           let under : n ≤ i = omega arith in
-          entry-under matrix n r scales p i (column-inside p l) under ∙ rw (le-ltb i n under, own)
+          entry-under matrix bits n r scales p i under ∙ rw (le-ltb i n under, own)
 
-  pub colours-same : (rng : SplitMix64) → coloringOf plusZero (entryOf matrix n r scales) (length r) (n + 1) rng ≡ coloringOf plusZero
-      (scaledColumns (columnsOf matrix n) n w ω r) (length r) (suc n) rng
-  colours-same rng = rw (add-one n) (coloring-same (entryOf matrix n r scales) (scaledColumns (columnsOf matrix n) n w ω r) (length r)
+  pub colours-same : (rng : SplitMix64) → coloringOf plusZero (entryOf matrix bits n r scales) (length r) (n + 1) rng ≡ coloringOf plusZero
+      (scaledColumns (readOf matrix bits n) n w ω r) (length r) (suc n) rng
+  colours-same rng = rw (add-one n) (coloring-same (entryOf matrix bits n r scales) (scaledColumns (readOf matrix bits n) n w ω r) (length r)
       (suc n) entry-same plusZero rng)
 
   -- the halving by these colours, from what each call ensures
   pub halved-by : (rng : SplitMix64) (scale x : List Float) (rows : ℕ) (sigma : Float) (v : List Float) (r' : Counted) (directions sweeps : ℕ)
-      → scale ≡ scales → rows ≡ n + 1 → ColoredAs x r' (coloringOf plusZero (entryOf matrix n r scale) (length r) rows rng)
+      → scale ≡ scales → rows ≡ n + 1 → ColoredAs x r' (coloringOf plusZero (entryOf matrix bits n r scale) (length r) rows rng)
       → sigma ≡ sigmaOf x → v ≡ halvedTo w r x sigma (length r)
       → _≡_ {A = Halved} (record { w = v; rng = r' .rng; directions = directions + r' .directions; sweeps = sweeps + r' .sweeps })
       (halvedBy (record { w = w; rng = rng; directions = directions; sweeps = sweeps }) r
-      (coloringOf plusZero (scaledColumns (columnsOf matrix n) n w ω r) (length r) (suc n) rng))
+      (coloringOf plusZero (scaledColumns (readOf matrix bits n) n w ω r) (length r) (suc n) rng))
   halved-by rng scale x rows sigma v r' directions sweeps es er c ec ev =
-      let same : coloringOf plusZero (entryOf matrix n r scale) (length r) rows rng ≡ coloringOf plusZero
-      (scaledColumns (columnsOf matrix n) n w ω r) (length r) (suc n) rng =
+      let same : coloringOf plusZero (entryOf matrix bits n r scale) (length r) rows rng ≡ coloringOf plusZero
+      (scaledColumns (readOf matrix bits n) n w ω r) (length r) (suc n) rng =
       rw (es, er) (colours-same rng) in
       rw (← same) (rw (ev, ec, c .colours, c .draws, c .directions, c .sweeps))
 

@@ -6,15 +6,16 @@ use mathlib.Core.List.{List}
 use lib.ListN.{length}
 use lib.Ieee.{Float}
 use Rattle.limits.specs.Limits.{bounded}
+use Rattle.limits.specs.Reading.{Whole}
 use Rattle.ieee.specs.Constants.{one}
 use Rattle.seq.specs.Indices.{Below}
 use Rattle.halve.specs.Halve.{Halved}
 use Rattle.coloring.specs.declared.Counted.{Counted}
 
 -- a colouring of some indices has its columns and its scratch
-pub record Equipped (matrix : List Float) (n : ℕ) (w : List Float) (some : List ℕ) (scale x numbers : List Float)
+pub record Equipped (matrix : List Float) (bits : List ℕ) (n : ℕ) (w : List Float) (some : List ℕ) (scale x numbers : List Float)
     (blocked : List ℕ) : Type 0 where
-  pub whole : length matrix ≡ length w * n
+  pub whole : Whole matrix bits (length w) n
   pub inside : Below some (length w)
   pub few : length some ≤ 256
   pub short : n ≤ 4096
@@ -24,9 +25,10 @@ pub record Equipped (matrix : List Float) (n : ℕ) (w : List Float) (some : Lis
   pub rows : length blocked ≡ n + 1
   pub small : bounded one matrix ≡ true
 
--- the matrix has a column for each weight and no entry above 1, and there is scratch for a colouring of any of them with one more row
-pub record Ready (matrix : List Float) (n : ℕ) (w numbers : List Float) (indices : List ℕ) : Type 0 where
-  pub whole : length matrix ≡ length w * n
+-- the matrix, of doubles or of bits, has a column for each weight and no double above 1, and there is scratch for a colouring of any of
+-- them with one more row
+pub record Ready (matrix : List Float) (bits : List ℕ) (n : ℕ) (w numbers : List Float) (indices : List ℕ) : Type 0 where
+  pub whole : Whole matrix bits (length w) n
   pub few : length w ≤ 256
   pub short : n ≤ 4096
   pub floats : 3 * (n + 1) + length w * length w ≤ length numbers

@@ -11,13 +11,14 @@ ghost use lib.ListN.{length};
 ghost use Rattle.seq.specs.Sums.{plusZero};
 ghost use Rattle.seq.specs.Indices.{Below};
 ghost use Rattle.coloring.specs.Coloring.{coloringOf};
-ghost use Rattle.limits.specs.Matrix.{columnsOf};
+ghost use Rattle.limits.specs.Reading.{readOf};
 ghost use Rattle.halve.specs.Halve.{scaledColumns, halvedBy, halvedOnce};
 ghost use Rattle.halve.specs.Handed.{halvesOf, Equipped, Ready, Countable};
 
 // Colours some indices and halves their weights; the tally with the colouring added. scale, x and blocked are scratch.
 fn halve_some(
     matrix: &[f64],
+    bits: &[u8],
     n: usize,
     w: &mut [f64],
     omega: f64,
@@ -28,15 +29,17 @@ fn halve_some(
     blocked: &mut [u32],
     tally: Counted,
 ) -> Counted
-    requires { ⌜ Equipped (now matrix) n (now w) (now some) (now scale) (now x) (now numbers) (now blocked) × Countable tally 1 ⌝ }
+    requires { ⌜ Equipped (now matrix) (now bits) n (now w) (now some) (now scale) (now x) (now numbers) (now blocked)
+        × Countable tally 1 ⌝ }
     ensures { λ r. ⌜ halvesOf (now (w .exit)) r ≡ halvedBy (halvesOf (now (w .entry)) tally) (now (some .entry)) (coloringOf plusZero
-        (scaledColumns (columnsOf (now (matrix .entry)) n) n (now (w .entry)) omega (now (some .entry)))
+        (scaledColumns (readOf (now (matrix .entry)) (now (bits .entry)) n) n (now (w .entry)) omega (now (some .entry)))
         (length (now (some .entry))) (suc n) (tally .rng)) ⌝ }
 {
     let rng = tally.rng;
     scales_into(&mut scale[..], &w[..], omega, some);
     let c = coloring(
         matrix,
+        bits,
         n,
         some,
         &scale[..],
@@ -60,6 +63,7 @@ fn halve_some(
 // Colours the remaining rest and halves it, where there is any; the tally with the colouring added.
 pub fn halve(
     matrix: &[f64],
+    bits: &[u8],
     n: usize,
     w: &mut [f64],
     omega: f64,
@@ -68,10 +72,11 @@ pub fn halve(
     indices: &mut [u32],
     tally: Counted,
 ) -> Counted
-    requires { ⌜ Ready (now matrix) n (now w) (now numbers) (now indices) × Below (now rest) (length (now w))
+    requires { ⌜ Ready (now matrix) (now bits) n (now w) (now numbers) (now indices) × Below (now rest) (length (now w))
         × (length (now rest) ≤ length (now w)) × Countable tally 1 ⌝ }
     ensures { λ r. ⌜ halvesOf (now (w .exit)) r
-        ≡ halvedOnce plusZero (columnsOf (now (matrix .entry)) n) n omega (now (rest .entry)) (halvesOf (now (w .entry)) tally) ⌝ }
+        ≡ halvedOnce plusZero (readOf (now (matrix .entry)) (now (bits .entry)) n) n omega (now (rest .entry))
+        (halvesOf (now (w .entry)) tally) ⌝ }
 {
     let mut some = [0u32; 256];
     let mut scale = [0.0f64; 256];
@@ -83,6 +88,7 @@ pub fn halve(
     }
     halve_some(
         matrix,
+        bits,
         n,
         w,
         omega,

@@ -1,65 +1,85 @@
 -- Laws of one column more: a block of sums over j columns becomes that over j + 1, or stays where the difference is 0.
-use Prim.Native.Nat.{ℕ, _+_, _*_, _≤_, _<_}
-use mathlib.Core.Path.{_≡_, ap, _∙_}
+use Prim.Native.Nat.{ℕ, _+_, _*_, _/_, _%_, _≤_, _<_}
+use mathlib.Core.Path.{_≡_, sym, ap, _∙_}
 use mathlib.Core.Bool.{true, false}
-use mathlib.Core.List.{List}
-use native.Mathlib.Nat.{mul-le-mul}
+use mathlib.Core.List.{List, _++_}
 use native.Mathlib.Omega.{arith}
 use native.Mathlib.Numerals.{add-one}
-use lib.ListN.{length}
-use lib.Ieee.{Float, nan, binary64, sub, mul, ne}
+use lib.Dec.{T}
+use lib.ListN.{length, drop}
+use lib.Ieee.{Float, nan, binary64, add, sub, mul, ne, fits}
 use Rattle.seq.specs.Lists.{tabulate, part}
 use Rattle.seq.specs.Sums.{plusZero, at}
-use Rattle.seq.proofs.Filling.{length-tab, getD-tab, tab-cong, room}
+use Rattle.seq.proofs.Filling.{whole, length-tab, getD-tab, tab-cong}
 use Rattle.seq.proofs.Parts.{getD-part}
 use Rattle.seq.proofs.Summing.{sum-more}
-use Rattle.limits.specs.Matrix.{columnsOf}
+use Rattle.limits.specs.Votes.{bitAt, bytesOf}
+use Rattle.limits.specs.Reading.{readOf}
+use Rattle.limits.proofs.ReadsAs.{reads-doubles, reads-votes}
+use Rattle.votes.specs.Signing.{signedAt, signedBy}
+use Rattle.votes.proofs.Fronts.{front-as}
+use Rattle.votes.proofs.Turning.{vote-times}
 use Rattle.margins.specs.Margins.{changeTo, marginAt}
-use Rattle.margins.specs.Blocks.{plusAt, Lent}
+use Rattle.margins.specs.Blocks.{plusAt, plusRows}
 
--- the rows of a block in a column lie within the matrix
-pub inside : {matrix : List Float} {m n : ℕ} (j from l : ℕ) → Lent matrix m n → j < m → from + l ≤ n → j * n + from + l ≤ length matrix
-inside {matrix} {m} {n} j from l e h k = omega (arith, room j m n h, e .whole)
+module _ (matrix : List Float) (bits : List ℕ) (n j from : ℕ) (s : Float) (block : List Float) where
+  -- the rows of a column of doubles, as a block of them adds up
+  pub rows-of-doubles : length bits ≡ 0
+      → tabulate (plusAt (part (j * n + from) (length block) matrix) s block) (length block)
+      ≡ tabulate (plusRows (readOf matrix bits n) j from s block) (length block)
+  rows-of-doubles e =
+      tab-cong _ _ (length block) (λ i h.
+      let r : j * n + from + i ≡ j * n + (from + i) = omega arith in
+      ap (λ (x : Float). add binary64 (at block i) (mul binary64 x s))
+      (getD-part (j * n + from) (length block) i matrix nan h ∙ ap (at matrix) r ∙ sym (reads-doubles matrix bits n e j (from + i))))
 
--- and the matrix is small
-pub small : {matrix : List Float} {m n : ℕ} → Lent matrix m n → length matrix ≤ 1_048_576
-small e = omega (arith, mul-le-mul (e .few) (e .short), e .whole)
+  -- the bits of a part that starts on a byte
+  bit-part : (a k i : ℕ) → from % 8 ≡ 0 → a ≡ j * bytesOf n + from / 8 → i < 8 * k → bitAt (part a k bits) i ≡ bitAt bits (8 * (j * bytesOf n) + (from + i))
+  bit-part a k i e f h =
+      let q : (8 * (j * bytesOf n) + (from + i)) / 8 ≡ a + i / 8 = omega arith in
+      let r : (8 * (j * bytesOf n) + (from + i)) % 8 ≡ i % 8 = omega arith in
+      rw (q, r, getD-part a k (i / 8) bits 0 (omega arith))
 
-module _ (matrix : List Float) (n : ℕ) where
-  -- a row of the column j within the block
-  row-at : (j from l i : ℕ) → i < l → at (part (j * n + from) l matrix) i ≡ columnsOf matrix n j (from + i)
-  row-at j from l i h =
-      let e : j * n + from + i ≡ j * n + (from + i) = omega arith in
-      getD-part (j * n + from) l i matrix nan h ∙ ap (at matrix) e
+  -- and of bits, where the block starts on a byte
+  pub rows-of-votes : (a k : ℕ) → 0 < length bits → T (fits binary64 s) → from % 8 ≡ 0 → a ≡ j * bytesOf n + from / 8 → length block ≤ 8 * k
+      → (block' : List Float) → block' ≡ tabulate (signedAt (part a k bits) s block) (length block) ++ drop (length block) block
+      → block' ≡ tabulate (plusRows (readOf matrix bits n) j from s block) (length block)
+  rows-of-votes a k some good e f h block' w =
+      whole (front-as (length block) (omega arith)
+      (λ i l.
+      ap (add binary64 (at block i))
+      (ap (λ b. signedBy b s) (bit-part a k i e f (omega arith))
+      ∙ sym (vote-times binary64 (bitAt bits (8 * (j * bytesOf n) + (from + i))) s good)
+      ∙ ap (λ (x : Float). mul binary64 x s) (sym (reads-votes matrix bits n some j (from + i))))) w) (omega arith)
 
+module _ (matrix : ℕ → ℕ → Float) where
   -- a block of margins takes the column j
   pub margins-more : (w : List Float) (from j l : ℕ) (block : List Float)
-      → block ≡ tabulate (λ i. marginAt (columnsOf matrix n) j w (from + i)) l
-      → tabulate (plusAt (part (j * n + from) (length block) matrix) (at w j) block) (length block)
-      ≡ tabulate (λ i. marginAt (columnsOf matrix n) (j + 1) w (from + i)) l
+      → block ≡ tabulate (λ i. marginAt matrix j w (from + i)) l
+      → tabulate (plusRows matrix j from (at w j) block) (length block)
+      ≡ tabulate (λ i. marginAt matrix (j + 1) w (from + i)) l
   margins-more w from j l block e =
-      rw (e, length-tab (λ i. marginAt (columnsOf matrix n) j w (from + i)) l)
+      rw (e, length-tab (λ i. marginAt matrix j w (from + i)) l)
       (tab-cong _ _ l (λ i h.
       rw (
-        getD-tab (λ i. marginAt (columnsOf matrix n) j w (from + i)) l i nan h,
-        row-at j from l i h,
-        sum-more binary64 plusZero (λ q. mul binary64 (columnsOf matrix n q (from + i)) (at w q)) j,
+        getD-tab (λ i. marginAt matrix j w (from + i)) l i nan h,
+        sum-more binary64 plusZero (λ q. mul binary64 (matrix q (from + i)) (at w q)) j,
       )))
 
   module _ (before after : List Float) (from j l : ℕ) (block : List Float)
-      (so-far : block ≡ tabulate (λ i. changeTo (columnsOf matrix n) before after (from + i) j) l) where
+      (so-far : block ≡ tabulate (λ i. changeTo matrix before after (from + i) j) l) where
     -- a block of changes takes the column j where its weight has changed
     pub change-more : ne (sub binary64 (at before j) (at after j)) plusZero ≡ true
-        → tabulate (plusAt (part (j * n + from) (length block) matrix) (sub binary64 (at before j) (at after j)) block) (length block)
-        ≡ tabulate (λ i. changeTo (columnsOf matrix n) before after (from + i) (j + 1)) l
+        → tabulate (plusRows matrix j from (sub binary64 (at before j) (at after j)) block) (length block)
+        ≡ tabulate (λ i. changeTo matrix before after (from + i) (j + 1)) l
     unfolding changeTo
     change-more t =
-        rw (so-far, length-tab (λ i. changeTo (columnsOf matrix n) before after (from + i) j) l)
+        rw (so-far, length-tab (λ i. changeTo matrix before after (from + i) j) l)
         (tab-cong _ _ l (λ i h.
-        rw (getD-tab (λ i. changeTo (columnsOf matrix n) before after (from + i) j) l i nan h, row-at j from l i h, add-one j, t)))
+        rw (getD-tab (λ i. changeTo matrix before after (from + i) j) l i nan h, add-one j, t)))
 
     -- and stays where the weight is as it was
     pub change-same : ne (sub binary64 (at before j) (at after j)) plusZero ≡ false
-        → block ≡ tabulate (λ i. changeTo (columnsOf matrix n) before after (from + i) (j + 1)) l
+        → block ≡ tabulate (λ i. changeTo matrix before after (from + i) (j + 1)) l
     unfolding changeTo
     change-same t = so-far ∙ tab-cong _ _ l (λ i h. rw (add-one j, t))

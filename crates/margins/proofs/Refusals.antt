@@ -3,7 +3,7 @@ use borrow.Author.Tests.{eqb-true, eq-eqb, ne-eqb}
 use Prim.Native.Nat.{ℕ, _*_}
 use mathlib.Core.Path.{_≡_, refl, sym, _∙_}
 use mathlib.Core.Bool.{Bool, true, false, not, _||_}
-use mathlib.Core.List.{List}
+use mathlib.Core.List.{List, []}
 use native.Mathlib.Omega.{arith}
 use lib.Dec.{eqb}
 use lib.ListN.{length}
@@ -52,7 +52,7 @@ module _ (matrix : List Float) (m n : ℕ) (before after : List Float) where
   -- what follows from the number, and the answers on the two ways out
   module _ (number : ℕ) (is : number ≡ marginFault matrix m n before after) where
     -- what is not refused is of the sizes that are taken
-    pub taken-sizes : number ≡ 0 → Compared matrix n before after × (length before ≡ m)
+    pub taken-sizes : number ≡ 0 → Compared matrix [] n before after × (length before ≡ m)
     unfolding marginFault
     taken-sizes h =
         let p = passed (tooLarge m n) (eqb (length matrix) (m * n)) (eqb (length before) m) (eqb (length after) m) (sym is ∙ h) in
@@ -60,7 +60,7 @@ module _ (matrix : List Float) (m n : ℕ) (before after : List Float) where
         let w = eqb-true (length matrix) (m * n) (p .1) in
         let b = eqb-true (length before) m (p .2) in
         let a = eqb-true (length after) m (p .3) in
-        ((rw b (record { whole = w; few = s .columns; short = s .rows }), omega arith), b)
+        ((rw b (record { whole = record { doubles = λ e. w; votes = λ h. absurd (omega arith) }; few = s .columns; short = s .rows }), omega arith), b)
 
     pub change-refused : (number ≡ 0 → ⊥) → _≡_ {A = Change} (record { number = number; change = plusZero }) (changeAnswer matrix m n before after)
     unfolding changeAnswer

@@ -1,6 +1,6 @@
 -- Laws of a stretch of rows: the largest magnitude and the count over a + b rows go on from those over a rows, and the array that holds a block gives back
 -- what was written to it.
-use Prim.Native.Nat.{ℕ, zero, suc, _+_, _≤_, _<_}
+use Prim.Native.Nat.{ℕ, zero, suc, _+_, _%_, _≤_, _<_}
 use mathlib.Core.Path.{_≡_, refl}
 use mathlib.Core.Bool.{Bool, true, false, not, _&&_, _||_, Bool·beq}
 use mathlib.Core.List.{List, _++_}
@@ -106,6 +106,14 @@ some-rows from r n h e k = go (decLt n (from + 64))
   where
     go : Dec (n < from + 64) → 0 < r
     go (yes g) = omega (arith, e (omega arith))
+    go (no g) = omega (arith, k (omega arith))
+
+-- a block that does not end the rows leaves the next one on a byte
+pub on-a-byte : (from r n : ℕ) → from % 8 ≡ 0 → (n ≤ from + 64 → from + r ≡ n) → (from + 64 ≤ n → r ≡ 64) → from + r < n → (from + r) % 8 ≡ 0
+on-a-byte from r n b e k h = go (decLt n (from + 64))
+  where
+    go : Dec (n < from + 64) → (from + r) % 8 ≡ 0
+    go (yes g) = absurd (omega (arith, e (omega arith)))
     go (no g) = omega (arith, k (omega arith))
 
 -- a count is at most what it runs over

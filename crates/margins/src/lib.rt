@@ -5,15 +5,16 @@ use ieee::larger;
 use limits::all_finite;
 use limits::too_large;
 use seq::clear;
+use votes::add_signed;
 ghost use mathlib.Core.Path.{_≡_};
-ghost use Prim.Native.Nat.{_≤_, _*_, _+_};
+ghost use Prim.Native.Nat.{_≤_, _+_, _%_};
 ghost use lib.ListN.{length};
 ghost use Rattle.seq.specs.Lists.{tabulate};
 ghost use Rattle.seq.specs.Sums.{at};
-ghost use Rattle.limits.specs.Matrix.{columnsOf};
+ghost use Rattle.limits.specs.Reading.{readOf, Lies};
 ghost use Rattle.margins.specs.Margins.{changeTo, maxChange, marginAt, turnedCount};
 ghost use Rattle.margins.specs.Answers.{marginFault, changeAnswer, thresholdFault, turnedAnswer};
-ghost use Rattle.margins.specs.Blocks.{plusAt, maxAbsFrom, turnedIn, Lent, Compared};
+ghost use Rattle.margins.specs.Blocks.{plusAt, plusRows, maxAbsFrom, turnedIn, Lent, Compared};
 
 // block + s times the column's rows.
 fn add_scaled(block: &mut [f64], column: &[f64], s: f64)
@@ -27,17 +28,36 @@ fn add_scaled(block: &mut [f64], column: &[f64], s: f64)
     }
 }
 
+// block + s times the rows of column j from `from` on, which starts a byte. The choice between doubles and bits is made here.
+fn add_rows(block: &mut [f64], from: usize, matrix: &[f64], bits: &[u8], n: usize, j: usize, s: f64)
+    requires { ⌜ Lies (now matrix) (now bits) n j × (from + length (now block) ≤ n) × (n ≤ 4096) × (from % 8 ≡ 0) ⌝ }
+    ensures { λ _. ⌜ now (block .exit) ≡ tabulate (plusRows (readOf (now (matrix .entry)) (now (bits .entry)) n) j from s
+        (now (block .entry))) (length (now (block .entry))) ⌝ }
+{
+    let k = block.len();
+    if bits.len() == 0 {
+        let a = j * n + from;
+        let e = a + k;
+        add_scaled(block, &matrix[a..e], s);
+    } else {
+        let a = j * ((n + 7) / 8) + from / 8;
+        let e = a + (k + 7) / 8;
+        add_signed(block, &bits[a..e], k, s);
+    }
+}
+
 // The changes of the rows from `from` on, as many as the block holds.
 pub fn changes_into(
     block: &mut [f64],
     from: usize,
     matrix: &[f64],
+    bits: &[u8],
     n: usize,
     before: &[f64],
     after: &[f64],
 )
-    requires { ⌜ Compared (now matrix) n (now before) (now after) × (from + length (now block) ≤ n) ⌝ }
-    ensures { λ _. ⌜ now (block .exit) ≡ tabulate (λ i. changeTo (columnsOf (now (matrix .entry)) n) (now (before .entry))
+    requires { ⌜ Compared (now matrix) (now bits) n (now before) (now after) × (from + length (now block) ≤ n) × (from % 8 ≡ 0) ⌝ }
+    ensures { λ _. ⌜ now (block .exit) ≡ tabulate (λ i. changeTo (readOf (now (matrix .entry)) (now (bits .entry)) n) (now (before .entry))
         (now (after .entry)) (from + i) (length (now (before .entry)))) (length (now (block .entry))) ⌝ }
 {
     clear(&mut block[..]);
@@ -45,27 +65,30 @@ pub fn changes_into(
     while j < before.len() {
         let delta = before[j] - after[j];
         if delta != 0.0 {
-            let a = j * n + from;
-            let e = a + block.len();
-            add_scaled(&mut block[..], &matrix[a..e], delta);
+            add_rows(&mut block[..], from, matrix, bits, n, j, delta);
         }
         j += 1;
     }
 }
 
 // The margins of the rows from `from` on.
-fn margins_into(block: &mut [f64], from: usize, matrix: &[f64], n: usize, weights: &[f64])
-    requires { ⌜ Lent (now matrix) (length (now weights)) n × (from + length (now block) ≤ n) ⌝ }
-    ensures { λ _. ⌜ now (block .exit) ≡ tabulate (λ i. marginAt (columnsOf (now (matrix .entry)) n)
+fn margins_into(
+    block: &mut [f64],
+    from: usize,
+    matrix: &[f64],
+    bits: &[u8],
+    n: usize,
+    weights: &[f64],
+)
+    requires { ⌜ Lent (now matrix) (now bits) (length (now weights)) n × (from + length (now block) ≤ n) × (from % 8 ≡ 0) ⌝ }
+    ensures { λ _. ⌜ now (block .exit) ≡ tabulate (λ i. marginAt (readOf (now (matrix .entry)) (now (bits .entry)) n)
         (length (now (weights .entry))) (now (weights .entry)) (from + i)) (length (now (block .entry))) ⌝ }
 {
     clear(&mut block[..]);
     let mut j = 0usize;
     while j < weights.len() {
         let w = weights[j];
-        let a = j * n + from;
-        let e = a + block.len();
-        add_scaled(&mut block[..], &matrix[a..e], w);
+        add_rows(&mut block[..], from, matrix, bits, n, j, w);
         j += 1;
     }
 }
@@ -110,9 +133,9 @@ fn block_length(from: usize, n: usize) -> usize
 }
 
 // The largest change of a margin.
-pub fn change_of(matrix: &[f64], n: usize, before: &[f64], after: &[f64]) -> f64
-    requires { ⌜ Compared (now matrix) n (now before) (now after) ⌝ }
-    ensures { λ r. ⌜ r ≡ maxChange (columnsOf (now (matrix .entry)) n) (length (now (before .entry))) n
+pub fn change_of(matrix: &[f64], bits: &[u8], n: usize, before: &[f64], after: &[f64]) -> f64
+    requires { ⌜ Compared (now matrix) (now bits) n (now before) (now after) ⌝ }
+    ensures { λ r. ⌜ r ≡ maxChange (readOf (now (matrix .entry)) (now (bits .entry)) n) (length (now (before .entry))) n
         (now (before .entry)) (now (after .entry)) ⌝ }
 {
     let mut block = [0.0f64; 64];
@@ -120,7 +143,7 @@ pub fn change_of(matrix: &[f64], n: usize, before: &[f64], after: &[f64]) -> f64
     let mut from = 0usize;
     while from < n {
         let k = block_length(from, n);
-        changes_into(&mut block[..k], from, matrix, n, before, after);
+        changes_into(&mut block[..k], from, matrix, bits, n, before, after);
         most = largest_from(most, &block[..k]);
         from += k;
     }
@@ -128,9 +151,16 @@ pub fn change_of(matrix: &[f64], n: usize, before: &[f64], after: &[f64]) -> f64
 }
 
 // How many words turn.
-fn turned_of(matrix: &[f64], n: usize, before: &[f64], after: &[f64], thresholds: &[f64]) -> usize
-    requires { ⌜ Compared (now matrix) n (now before) (now after) × (length (now thresholds) ≡ n) ⌝ }
-    ensures { λ r. ⌜ r ≡ turnedCount (columnsOf (now (matrix .entry)) n) (length (now (before .entry))) n
+fn turned_of(
+    matrix: &[f64],
+    bits: &[u8],
+    n: usize,
+    before: &[f64],
+    after: &[f64],
+    thresholds: &[f64],
+) -> usize
+    requires { ⌜ Compared (now matrix) (now bits) n (now before) (now after) × (length (now thresholds) ≡ n) ⌝ }
+    ensures { λ r. ⌜ r ≡ turnedCount (readOf (now (matrix .entry)) (now (bits .entry)) n) (length (now (before .entry))) n
         (now (before .entry)) (now (after .entry)) (now (thresholds .entry)) ⌝ }
 {
     let mut was = [0.0f64; 64];
@@ -140,8 +170,8 @@ fn turned_of(matrix: &[f64], n: usize, before: &[f64], after: &[f64], thresholds
     while from < n {
         let k = block_length(from, n);
         let e = from + k;
-        margins_into(&mut was[..k], from, matrix, n, before);
-        margins_into(&mut is[..k], from, matrix, n, after);
+        margins_into(&mut was[..k], from, matrix, bits, n, before);
+        margins_into(&mut is[..k], from, matrix, bits, n, after);
         turned += count_turned(&was[..k], &is[..k], &thresholds[from..e]);
         from = e;
     }
@@ -188,9 +218,10 @@ pub fn max_margin_change(
             change: 0.0,
         };
     }
+    let none = [0u8; 0];
     Change {
         number,
-        change: change_of(matrix, n, before, after),
+        change: change_of(matrix, &none[..], n, before, after),
     }
 }
 
@@ -233,8 +264,9 @@ pub fn turned_words(
             count: 0,
         };
     }
+    let none = [0u8; 0];
     Turned {
         number: 0,
-        count: turned_of(matrix, n, before, after, thresholds) as u64,
+        count: turned_of(matrix, &none[..], n, before, after, thresholds) as u64,
     }
 }

@@ -1,6 +1,6 @@
 -- The changes of what is not refused: values of the format, as many as there are rows, and no NaN.
 use Prim.Native.Nat.{ℕ, suc, _+_, _*_, _≤_, _<_}
-use mathlib.Core.Path.{_≡_, sym, subst}
+use mathlib.Core.Path.{_≡_, refl, sym, subst}
 use mathlib.Core.List.{List}
 use native.Mathlib.Nat.{mul-le-mul-right}
 use native.Mathlib.Omega.{arith}
@@ -40,7 +40,7 @@ module _ (matrix : List Float) (m n : ℕ) (before after : List Float) (t : Take
   change-bounded i h =
       change-up (columnsOf matrix n) before after i m (t .lent .few)
       (λ j l. one-up (at matrix (j * n + i)) (fu (j * n + i))
-      (bounded-at one matrix (t .entries) (j * n + i) (omega (arith, in-matrix m n j i l h, t .lent .whole))))
+      (bounded-at one matrix (t .entries) (j * n + i) (omega (arith, in-matrix m n j i l h, t .lent .whole .doubles refl))))
       (λ j l. one-up (at before j) (fb j) (bounded-at one before (t .old) j (omega (arith, t .first))))
       (λ j l. one-up (at after j) (fa j) (bounded-at one after (t .new) j (omega (arith, t .second))))
 

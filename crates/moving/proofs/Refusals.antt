@@ -119,7 +119,15 @@ module _ (matrix : List Float) (m n : ℕ) (before after : List Float) (rows cha
       record {
         taken =
             record {
-              lent = record { whole = eqb-true (length matrix) (m * n) (s .1); few = k .columns; short = k .rows };
+              lent = record {
+                whole = record {
+                  doubles = λ _. eqb-true (length matrix) (m * n) (s .1);
+                  votes = λ h. absurd
+                      (omega arith);
+                };
+                few = k .columns;
+                short = k .rows;
+              };
               first = eqb-true (length before) m (s .2);
               second = eqb-true (length after) m (s .3);
               entries = v .0;

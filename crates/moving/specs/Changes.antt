@@ -2,7 +2,7 @@
 use Prim.Native.Nat.{ℕ}
 use mathlib.Core.Path.{_≡_}
 use mathlib.Core.Bool.{true}
-use mathlib.Core.List.{List}
+use mathlib.Core.List.{List, []}
 use lib.ListN.{length}
 use lib.Ieee.{Float}
 use Rattle.seq.specs.Lists.{tabulate}
@@ -17,7 +17,7 @@ changesOf matrix m n before after = tabulate (λ i. changeTo matrix before after
 
 -- a matrix and weights that are not refused: of their sizes, and nothing above 1 in magnitude
 pub record Taken (matrix : List Float) (m n : ℕ) (before after : List Float) : Type 0 where
-  pub lent : Lent matrix m n
+  pub lent : Lent matrix [] m n
   pub first : length before ≡ m
   pub second : length after ≡ m
   pub entries : bounded one matrix ≡ true

@@ -90,7 +90,8 @@ pub fn list_changes(
         (lentChanges (now (matrix .entry)) (length (now (before .entry))) n (now (before .entry)) (now (after .entry)))
         (now (rows .exit)) (now (changes .exit)) ⌝ }
 {
-    changes_into(&mut keys[..], 0, matrix, n, before, after);
+    let none = [0u8; 0];
+    changes_into(&mut keys[..], 0, matrix, &none[..], n, before, after);
     list_moved(rows, changes, &keys[..], room, counts, again);
 }
 

@@ -35,15 +35,15 @@ use Rattle.draw.specs.declared.SplitMix64.{SplitMix64}
 
 -- ---- what is chosen
 
-module _ (matrix : List Float) (n : ℕ) (cols : List ℕ) (scale : List Float) (places : List ℕ) where
+module _ (matrix : List Float) (bits : List ℕ) (n : ℕ) (cols : List ℕ) (scale : List Float) (places : List ℕ) where
   -- an entry of the chosen columns is the entry at its place
   entry-chosen : (p : ℕ) → p < length places → (i : ℕ)
-      → entryOf matrix n (wordsAt cols places) (chosen scale places) p i ≡ entryOf matrix n cols scale (getD places p 0) i
+      → entryOf matrix bits n (wordsAt cols places) (chosen scale places) p i ≡ entryOf matrix bits n cols scale (getD places p 0) i
   entry-chosen p h i =
       rw (getD-tab {A = ℕ} (λ q. getD cols (getD places q 0) 0) (length places) p 0 h, getD-tab (λ q. at scale (getD places q 0)) (length places) p nan h)
 
-  pub chosen-part : (rows : ℕ) → Chosen matrix n cols scale rows → Below places (length cols) → length places ≤ length cols
-      → Chosen matrix n (wordsAt cols places) (chosen scale places) rows
+  pub chosen-part : (rows : ℕ) → Chosen matrix bits n cols scale rows → Below places (length cols) → length places ≤ length cols
+      → Chosen matrix bits n (wordsAt cols places) (chosen scale places) rows
   chosen-part rows c b h =
       let lc : length (wordsAt cols places) ≡ length places = length-tab {A = ℕ} (λ q. getD cols (getD places q 0) 0) (length places) in
       let ls : length (chosen scale places) ≡ length places = length-tab (λ q. at scale (getD places q 0)) (length places) in
@@ -69,34 +69,35 @@ roomy-part k l numbers blocked x some-x free some-free r h ex ef =
 
 -- ---- what the phase leaves
 
-module _ (matrix : List Float) (n : ℕ) (cols : List ℕ) (scale : List Float) (places : List ℕ) (rows : ℕ) (rng : SplitMix64) (numbers x : List Float)
+module _ (matrix : List Float) (bits : List ℕ) (n : ℕ) (cols : List ℕ) (scale : List Float) (places : List ℕ) (rows : ℕ) (rng : SplitMix64)
+    (numbers x : List Float)
     (free : List ℕ) where
-  abbrev matrix : ℕ → ℕ → Float
-  matrix = entryOf matrix n cols scale
+  abbrev entry : ℕ → ℕ → Float
+  entry = entryOf matrix bits n cols scale
 
   -- the phase on the chosen columns is the phase on those at the places
-  inside-is : courseOf plusZero (entryOf matrix n (wordsAt cols places) (chosen scale places)) (length places) rows
-      (begun plusZero (entryOf matrix n (wordsAt cols places) (chosen scale places)) (length places) rows (chosen x places) (axIn rows numbers) rng)
-      ≡ insideOf matrix rows places rng numbers x
+  inside-is : courseOf plusZero (entryOf matrix bits n (wordsAt cols places) (chosen scale places)) (length places) rows
+      (begun plusZero (entryOf matrix bits n (wordsAt cols places) (chosen scale places)) (length places) rows (chosen x places) (axIn rows numbers) rng)
+      ≡ insideOf entry rows places rng numbers x
   inside-is =
-      ap (courseOf plusZero (entryOf matrix n (wordsAt cols places) (chosen scale places)) (length places) rows)
-      (begun-same plusZero (entryOf matrix n (wordsAt cols places) (chosen scale places)) (λ p. matrix (getD places p 0)) (length places) rows
-      (λ p i h _. entry-chosen matrix n cols scale places p h i) (chosen x places) (axIn rows numbers) rng)
-      ∙ phase-same plusZero (entryOf matrix n (wordsAt cols places) (chosen scale places)) (λ p. matrix (getD places p 0)) (length places) rows
-      (λ p i h _. entry-chosen matrix n cols scale places p h i) _
+      ap (courseOf plusZero (entryOf matrix bits n (wordsAt cols places) (chosen scale places)) (length places) rows)
+      (begun-same plusZero (entryOf matrix bits n (wordsAt cols places) (chosen scale places)) (λ p. entry (getD places p 0)) (length places) rows
+      (λ p i h _. entry-chosen matrix bits n cols scale places p h i) (chosen x places) (axIn rows numbers) rng)
+      ∙ phase-same plusZero (entryOf matrix bits n (wordsAt cols places) (chosen scale places)) (λ p. entry (getD places p 0)) (length places) rows
+      (λ p i h _. entry-chosen matrix bits n cols scale places p h i) _
 
   module _ (some-cols : List ℕ) (some-scale some-x : List Float)
       (ec : some-cols ≡ wordsAt cols places) (es : some-scale ≡ chosen scale places) (ex : some-x ≡ chosen x places) where
     pub phased-at : {numbers' : List Float} {blocked' : List ℕ} {sub-x : List Float} {sub-free : List ℕ} {x' : List Float} {free' : List ℕ} {r : Phased}
-        → CourseHolds numbers' blocked' sub-x sub-free r (courseOf plusZero (entryOf matrix n some-cols some-scale) (length some-cols) rows
-        (begun plusZero (entryOf matrix n some-cols some-scale) (length some-cols) rows some-x (axIn rows numbers) rng))
+        → CourseHolds numbers' blocked' sub-x sub-free r (courseOf plusZero (entryOf matrix bits n some-cols some-scale) (length some-cols) rows
+        (begun plusZero (entryOf matrix bits n some-cols some-scale) (length some-cols) rows some-x (axIn rows numbers) rng))
         → length blocked' ≡ rows
         → x' ≡ putBack plusZero places sub-x x (length places)
         → free' ≡ putBack 0 places sub-free free (length places)
-        → PhasedAt matrix rows places rng numbers x free r numbers' x' free'
+        → PhasedAt entry rows places rng numbers x free r numbers' x' free'
     phased-at {numbers'} {blocked'} {sub-x} {sub-free} {x'} {free'} {r} h lb mx mf =
         let lc : length (wordsAt cols places) ≡ length places = length-tab {A = ℕ} (λ q. getD cols (getD places q 0) 0) (length places) in
-        let i : CourseHolds numbers' blocked' sub-x sub-free r (insideOf matrix rows places rng numbers x) =
+        let i : CourseHolds numbers' blocked' sub-x sub-free r (insideOf entry rows places rng numbers x) =
         subst (CourseHolds numbers' blocked' sub-x sub-free r) inside-is (rw (ec, es, ex, lc) at h) in
         record {
           froze = ap (λ (w : Walk). w .frozen) (i .walk);

@@ -28,6 +28,7 @@ fn phase_on(
     free: &mut [u32],
     places: &[u32],
     matrix: &[f64],
+    bits: &[u8],
     n: usize,
     cols: &[u32],
     scale: &[f64],
@@ -38,12 +39,12 @@ fn phase_on(
     subfree: &mut [u32],
     g: &mut [f64],
 ) -> Phased
-    requires { ⌜ Chosen (now matrix) n (now cols) (now scale) (length (now blocked)) × Roomy (length (now cols)) (now numbers)
+    requires { ⌜ Chosen (now matrix) (now bits) n (now cols) (now scale) (length (now blocked)) × Roomy (length (now cols)) (now numbers)
         (now blocked) (now x) (now free) 0 × Below (now places) (length (now cols)) × (length (now places) ≤ length (now cols)) ⌝ }
     requires { ⌜ (length (now subcols) ≡ length (now places)) × (length (now subscale) ≡ length (now places)) ×
         (length (now subx) ≡ length (now places))
         × (length (now subfree) ≡ length (now places)) × (length (now g) ≡ length (now places)) ⌝ }
-    ensures { λ r. ⌜ PhasedAt (entryOf (now (matrix .entry)) n (now (cols .entry)) (now (scale .entry)))
+    ensures { λ r. ⌜ PhasedAt (entryOf (now (matrix .entry)) (now (bits .entry)) n (now (cols .entry)) (now (scale .entry)))
         (length (now (blocked .entry))) (now (places .entry)) rng (now (numbers .entry)) (now (x .entry))
         (now (free .entry)) r (now (numbers .exit)) (now (x .exit)) (now (free .exit)) ⌝ }
 {
@@ -56,6 +57,7 @@ fn phase_on(
         &mut subx[..],
         &mut subfree[..],
         matrix,
+        bits,
         n,
         &subcols[..],
         &subscale[..],
@@ -74,6 +76,7 @@ pub fn next_phase(
     x: &mut [f64],
     free: &mut [u32],
     matrix: &[f64],
+    bits: &[u8],
     n: usize,
     cols: &[u32],
     scale: &[f64],
@@ -85,14 +88,14 @@ pub fn next_phase(
     subfree: &mut [u32],
     g: &mut [f64],
 ) -> Phased
-    requires { ⌜ Chosen (now matrix) n (now cols) (now scale) (length (now blocked)) × Roomy (length (now cols)) (now numbers)
+    requires { ⌜ Chosen (now matrix) (now bits) n (now cols) (now scale) (length (now blocked)) × Roomy (length (now cols)) (now numbers)
         (now blocked) (now x) (now free) 0 ⌝ }
     requires { ⌜ (length (now cols) ≤ length (now places)) × (length (now cols) ≤ length (now subcols)) ×
         (length (now cols) ≤ length (now subscale))
         × (length (now cols) ≤ length (now subx)) × (length (now cols) ≤ length (now subfree)) × (length (now cols) ≤ length (now g)) ⌝ }
     ensures { λ r. ⌜ ((d : ℕ) → between (length (now (blocked .entry))) (now (numbers .exit)) (now (x .exit)) (now (free .exit))
         (r .at .rng) (d + r .directions) ≡ phased plusZero
-        (entryOf (now (matrix .entry)) n (now (cols .entry)) (now (scale .entry))) (length (now (cols .entry)))
+        (entryOf (now (matrix .entry)) (now (bits .entry)) n (now (cols .entry)) (now (scale .entry))) (length (now (cols .entry)))
         (length (now (blocked .entry))) (between (length (now (blocked .entry))) (now (numbers .entry)) (now (x .entry))
         (now (free .entry)) rng d)) ⌝ }
 {
@@ -104,6 +107,7 @@ pub fn next_phase(
         free,
         &places[..l],
         matrix,
+        bits,
         n,
         cols,
         scale,

@@ -1,7 +1,7 @@
 // Local search: single coordinates are flipped while that lowers the largest magnitude of A x.
-use columns::less_column;
-use columns::stays_below;
 use linear::max_abs;
+use reading::less_column_of;
+use reading::stays_below_of;
 ghost use mathlib.Core.Path.{_≡_};
 ghost use Prim.Native.Nat.{_<_};
 ghost use lib.ListN.{length};
@@ -23,21 +23,21 @@ fn try_flip(
     j: usize,
     from: Found,
     matrix: &[f64],
+    bits: &[u8],
     n: usize,
     cols: &[u32],
     scale: &[f64],
 ) -> Found
-    requires { ⌜ Chosen (now matrix) n (now cols) (now scale) (length (now ax)) × (length (now x) ≡ length (now cols)) ×
+    requires { ⌜ Chosen (now matrix) (now bits) n (now cols) (now scale) (length (now ax)) × (length (now x) ≡ length (now cols)) ×
         (j < length (now cols)) ⌝ }
-    ensures { λ r. ⌜ Tried (entryOf (now (matrix .entry)) n (now (cols .entry)) (now (scale .entry)) j) j
+    ensures { λ r. ⌜ Tried (entryOf (now (matrix .entry)) (now (bits .entry)) n (now (cols .entry)) (now (scale .entry)) j) j
         (searchOf (now (x .entry)) (now (ax .entry)) from) (searchOf (now (x .exit)) (now (ax .exit)) r) ⌝ }
 {
-    let a = (cols[j] as usize) * n;
-    let e = a + n;
+    let c = cols[j] as usize;
     let s = scale[j];
     let t = 2.0 * x[j];
-    if stays_below(&ax[..], &matrix[a..e], s, t, from.best * (1.0 - 1e-12)) {
-        less_column(&mut ax[..], &matrix[a..e], s, t);
+    if stays_below_of(&ax[..], matrix, bits, n, c, s, t, from.best * (1.0 - 1e-12)) {
+        less_column_of(&mut ax[..], matrix, bits, n, c, s, t);
         x[j] = -x[j];
         return Found {
             best: max_abs(&ax[..]),
@@ -53,12 +53,13 @@ fn sweep(
     x: &mut [f64],
     best: f64,
     matrix: &[f64],
+    bits: &[u8],
     n: usize,
     cols: &[u32],
     scale: &[f64],
 ) -> Found
-    requires { ⌜ Chosen (now matrix) n (now cols) (now scale) (length (now ax)) × (length (now x) ≡ length (now cols)) ⌝ }
-    ensures { λ r. ⌜ Swept (entryOf (now (matrix .entry)) n (now (cols .entry)) (now (scale .entry)))
+    requires { ⌜ Chosen (now matrix) (now bits) n (now cols) (now scale) (length (now ax)) × (length (now x) ≡ length (now cols)) ⌝ }
+    ensures { λ r. ⌜ Swept (entryOf (now (matrix .entry)) (now (bits .entry)) n (now (cols .entry)) (now (scale .entry)))
         (length (now (cols .entry))) (now (x .entry)) (now (ax .entry)) best (searchOf (now (x .exit)) (now (ax .exit)) r) ⌝ }
 {
     let mut at = Found {
@@ -67,7 +68,7 @@ fn sweep(
     };
     let mut j = 0usize;
     while j < cols.len() {
-        let next = try_flip(ax, x, j, at, matrix, n, cols, scale);
+        let next = try_flip(ax, x, j, at, matrix, bits, n, cols, scale);
         at = next;
         j += 1;
     }
@@ -79,18 +80,20 @@ pub fn local_search(
     ax: &mut [f64],
     x: &mut [f64],
     matrix: &[f64],
+    bits: &[u8],
     n: usize,
     cols: &[u32],
     scale: &[f64],
 ) -> usize
-    requires { ⌜ Chosen (now matrix) n (now cols) (now scale) (length (now ax)) × (length (now x) ≡ length (now cols)) ⌝ }
-    ensures { λ r. ⌜ searchedIn (now (x .exit)) r ≡ searched (entryOf (now (matrix .entry)) n (now (cols .entry)) (now (scale .entry)))
+    requires { ⌜ Chosen (now matrix) (now bits) n (now cols) (now scale) (length (now ax)) × (length (now x) ≡ length (now cols)) ⌝ }
+    ensures { λ r. ⌜ searchedIn (now (x .exit)) r ≡ searched
+        (entryOf (now (matrix .entry)) (now (bits .entry)) n (now (cols .entry)) (now (scale .entry)))
         (length (now (cols .entry))) (now (x .entry)) (now (ax .entry)) ⌝ }
 {
     let mut best = max_abs(&ax[..]);
     let mut k = 0usize;
     while k < 100 {
-        let r = sweep(ax, x, best, matrix, n, cols, scale);
+        let r = sweep(ax, x, best, matrix, bits, n, cols, scale);
         best = r.best;
         let swept = k + 1;
         if !r.improved {

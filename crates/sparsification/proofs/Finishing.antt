@@ -2,7 +2,7 @@
 use Prim.Native.Nat.{ℕ, zero, suc, _+_, _*_, _≤_, _<_}
 use mathlib.Core.Path.{_≡_, refl, sym, ap, _∙_}
 use mathlib.Core.Bool.{Bool, true, false}
-use mathlib.Core.List.{List}
+use mathlib.Core.List.{List, []}
 use native.Mathlib.Omega.{arith}
 use native.Mathlib.Nat.{mul-le-mul-right}
 use lib.Dec.{eqb}
@@ -96,11 +96,11 @@ start-bounded w k normal e = all-hold (λ j. le (absOf (at w j)) one) (length w)
 
 -- the sizes of an accepted job are those that a pass asks for
 pub ready-of : (matrix : List Float) (m n : ℕ) (w output numbers : List Float) (indices : List ℕ)
-    → Sized m n (length matrix) (length w) (length output) (length numbers) (length indices) → bounded one matrix ≡ true → Ready matrix n w numbers indices
+    → Sized m n (length matrix) (length w) (length output) (length numbers) (length indices) → bounded one matrix ≡ true → Ready matrix [] n w numbers indices
 ready-of matrix m n w output numbers indices s small =
     let e : length w ≡ m = s .given in
     record {
-      whole = rw e (s .whole);
+      whole = record { doubles = λ _. rw e (s .whole); votes = λ h. absurd (omega arith) };
       few = rw e (s .few);
       short = s .short;
       floats = rw e (omega (arith, s .floats, room m n (s .columns)));

@@ -20,7 +20,7 @@ ghost use Rattle.rules.specs.Rules.{ruleFault};
 ghost use Rattle.faults.specs.Faults.{valueFault};
 ghost use Rattle.rules.specs.declared.Rule.the-variants.{Target, Within};
 ghost use Rattle.limits.specs.Limits.{bounded};
-ghost use Rattle.limits.specs.Matrix.{columnsOf};
+ghost use Rattle.limits.specs.Reading.{readOf};
 ghost use Rattle.ieee.specs.Constants.{one};
 ghost use Rattle.weights.specs.Weights.{normalized};
 ghost use Rattle.halve.specs.Handed.{Ready};
@@ -85,6 +85,7 @@ fn answer_for(p: Path) -> Answer
 // Thins from the normalized weights into the output, and wipes the scratch. next is room for a pass that is only tried.
 fn thin_on(
     matrix: &[f64],
+    bits: &[u8],
     n: usize,
     start: &[f64],
     next: &mut [f64],
@@ -94,14 +95,16 @@ fn thin_on(
     numbers: &mut [f64],
     indices: &mut [u32],
 ) -> Answer
-    requires { ⌜ Ready (now matrix) n (now start) (now numbers) (now indices) × (bounded one (now start) ≡ true)
+    requires { ⌜ Ready (now matrix) (now bits) n (now start) (now numbers) (now indices) × (bounded one (now start) ≡ true)
         × (length (now next) ≡ length (now start)) × (length (now output) ≡ length (now start)) × (ruleFault rule ≡ 0) ⌝ }
-    ensures { λ r. ⌜ ThinnedFrom (columnsOf (now (matrix .entry)) n) n (now (start .entry)) source rule (now (numbers .entry))
+    ensures { λ r. ⌜ ThinnedFrom (readOf (now (matrix .entry)) (now (bits .entry)) n) n (now (start .entry)) source rule
+        (now (numbers .entry))
         (now (indices .entry)) r (now (output .exit)) (now (numbers .exit)) (now (indices .exit)) ⌝ }
 {
     copy(&mut output[..], start);
     let path = follow(
         matrix,
+        bits,
         n,
         start,
         &mut output[..],
@@ -119,6 +122,7 @@ fn thin_on(
 // Normalizes the weights of a job that has no fault, and thins from there. start is room for them.
 pub fn thin_sound(
     matrix: &[f64],
+    bits: &[u8],
     n: usize,
     weights: &[f64],
     start: &mut [f64],
@@ -128,9 +132,10 @@ pub fn thin_sound(
     numbers: &mut [f64],
     indices: &mut [u32],
 ) -> Answer
-    requires { ⌜ Ready (now matrix) n (now weights) (now numbers) (now indices) × (valueFault (now matrix) (now weights) ≡ 0)
+    requires { ⌜ Ready (now matrix) (now bits) n (now weights) (now numbers) (now indices) × (valueFault (now matrix) (now weights) ≡ 0)
         × (length (now start) ≡ length (now weights)) × (length (now output) ≡ length (now weights)) × (ruleFault rule ≡ 0) ⌝ }
-    ensures { λ r. ⌜ ThinnedFrom (columnsOf (now (matrix .entry)) n) n (normalized plusZero (now (weights .entry))) source rule
+    ensures { λ r. ⌜ ThinnedFrom (readOf (now (matrix .entry)) (now (bits .entry)) n) n
+        (normalized plusZero (now (weights .entry))) source rule
         (now (numbers .entry)) (now (indices .entry)) r (now (output .exit)) (now (numbers .exit)) (now (indices .exit)) ⌝ }
 {
     let m = weights.len();
@@ -139,6 +144,7 @@ pub fn thin_sound(
     normalize(&mut start[..]);
     thin_on(
         matrix,
+        bits,
         n,
         &start[..],
         &mut next[..m],
@@ -180,9 +186,11 @@ pub fn thin(
     if number != 0 {
         return refused(number);
     }
+    let none = [0u8; 0];
     let mut start = [0.0f64; 256];
     thin_sound(
         matrix,
+        &none[..],
         n,
         weights,
         &mut start[..m],

@@ -12,7 +12,7 @@ ghost use Prim.Native.Nat.{_<_};
 ghost use mathlib.Core.Bool.{true};
 ghost use lib.ListN.{length};
 ghost use Rattle.limits.specs.Limits.{bounded};
-ghost use Rattle.limits.specs.Matrix.{columnsOf};
+ghost use Rattle.limits.specs.Reading.{readOf};
 ghost use Rattle.ieee.specs.Constants.{one};
 ghost use Rattle.halve.specs.Handed.{Ready};
 ghost use Rattle.stages.specs.Paths.{Followed};
@@ -32,6 +32,7 @@ pub struct Path {
 // Passes until at most so many entries are not 0; the path to there. w and start are the normalized weights.
 fn to_target(
     matrix: &[f64],
+    bits: &[u8],
     n: usize,
     start: &[f64],
     w: &mut [f64],
@@ -40,9 +41,10 @@ fn to_target(
     source: SplitMix64,
     target: usize,
 ) -> Path
-    requires { ⌜ Ready (now matrix) n (now w) (now numbers) (now indices) × (bounded one (now w) ≡ true) × (now w ≡ now start)
+    requires { ⌜ Ready (now matrix) (now bits) n (now w) (now numbers) (now indices) × (bounded one (now w) ≡ true) × (now w ≡ now start)
         × (0 < target) ⌝ }
-    ensures { λ r. ⌜ Followed (columnsOf (now (matrix .entry)) n) n (now (w .entry)) source (Target target) r (now (w .exit)) ⌝ }
+    ensures { λ r. ⌜ Followed (readOf (now (matrix .entry)) (now (bits .entry)) n) n (now (w .entry)) source (Target target) r
+        (now (w .exit)) ⌝ }
 {
     let mut tally = Counted {
         directions: 0,
@@ -54,10 +56,11 @@ fn to_target(
     let mut change = [0.0f64; 9];
     let mut left = count_nonzeros(&w[..]);
     nonzeros[stage] = left as u64;
-    change[stage] = change_of(matrix, n, start, &w[..]);
+    change[stage] = change_of(matrix, bits, n, start, &w[..]);
     while left > target {
         let after = halving_pass(
             matrix,
+            bits,
             n,
             &mut w[..],
             &mut numbers[..],
@@ -68,7 +71,7 @@ fn to_target(
         stage += 1;
         left = count_nonzeros(&w[..]);
         nonzeros[stage] = left as u64;
-        change[stage] = change_of(matrix, n, start, &w[..]);
+        change[stage] = change_of(matrix, bits, n, start, &w[..]);
     }
     Path {
         stage,
@@ -82,6 +85,7 @@ fn to_target(
 // Passes until one measures above the allowance and the cap is met; the path to there. w and start are the normalized weights.
 fn to_allowance(
     matrix: &[f64],
+    bits: &[u8],
     n: usize,
     start: &[f64],
     w: &mut [f64],
@@ -92,9 +96,10 @@ fn to_allowance(
     allowance: f64,
     cap: Cap,
 ) -> Path
-    requires { ⌜ Ready (now matrix) n (now w) (now numbers) (now indices) × (bounded one (now w) ≡ true) × (now w ≡ now start)
+    requires { ⌜ Ready (now matrix) (now bits) n (now w) (now numbers) (now indices) × (bounded one (now w) ≡ true) × (now w ≡ now start)
         × (length (now next) ≡ length (now w)) × (ruleFault (Within allowance cap) ≡ 0) ⌝ }
-    ensures { λ r. ⌜ Followed (columnsOf (now (matrix .entry)) n) n (now (w .entry)) source (Within allowance cap) r (now (w .exit)) ⌝ }
+    ensures { λ r. ⌜ Followed (readOf (now (matrix .entry)) (now (bits .entry)) n) n (now (w .entry)) source (Within allowance cap) r
+        (now (w .exit)) ⌝ }
 {
     let mut tally = Counted {
         directions: 0,
@@ -106,10 +111,11 @@ fn to_allowance(
     let mut change = [0.0f64; 9];
     let mut left = count_nonzeros(&w[..]);
     nonzeros[stage] = left as u64;
-    change[stage] = change_of(matrix, n, start, &w[..]);
+    change[stage] = change_of(matrix, bits, n, start, &w[..]);
     while left > 1 {
         let t = try_pass(
             matrix,
+            bits,
             n,
             start,
             &mut w[..],
@@ -146,6 +152,7 @@ fn to_allowance(
 // pass that is only tried.
 pub fn follow(
     matrix: &[f64],
+    bits: &[u8],
     n: usize,
     start: &[f64],
     w: &mut [f64],
@@ -155,14 +162,15 @@ pub fn follow(
     source: SplitMix64,
     rule: Rule,
 ) -> Path
-    requires { ⌜ Ready (now matrix) n (now w) (now numbers) (now indices) × (bounded one (now w) ≡ true) × (now w ≡ now start)
+    requires { ⌜ Ready (now matrix) (now bits) n (now w) (now numbers) (now indices) × (bounded one (now w) ≡ true) × (now w ≡ now start)
         × (length (now next) ≡ length (now w)) × (ruleFault rule ≡ 0) ⌝ }
-    ensures { λ r. ⌜ Followed (columnsOf (now (matrix .entry)) n) n (now (w .entry)) source rule r (now (w .exit)) ⌝ }
+    ensures { λ r. ⌜ Followed (readOf (now (matrix .entry)) (now (bits .entry)) n) n (now (w .entry)) source rule r (now (w .exit)) ⌝ }
 {
     match rule {
-        Rule::Target(t) => to_target(matrix, n, start, w, numbers, indices, source, t),
+        Rule::Target(t) => to_target(matrix, bits, n, start, w, numbers, indices, source, t),
         Rule::Within { allowance, cap } => to_allowance(
             matrix,
+            bits,
             n,
             start,
             w,

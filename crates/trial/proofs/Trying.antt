@@ -20,8 +20,9 @@ use Rattle.trial.specs.declared.Tried.{Tried}
 use Rattle.draw.specs.declared.SplitMix64.{SplitMix64}
 
 -- the matrix of a pass is one that a change is measured over
-pub lent-of : {matrix : List Float} {n : ℕ} {w numbers : List Float} {indices : List ℕ} (start : List Float) → Ready matrix n w numbers indices
-    → length start ≡ length w → Lent matrix (length start) n
+pub lent-of : {matrix : List Float} {bits : List ℕ} {n : ℕ} {w numbers : List Float} {indices : List ℕ} (start : List Float)
+    → Ready matrix bits n w numbers indices
+    → length start ≡ length w → Lent matrix bits (length start) n
 lent-of start r e = record { whole = rw e (r .whole); few = rw e (r .few); short = r .short }
 
 module _ (matrix : ℕ → ℕ → Float) (n : ℕ) (start : List Float) (a : Float) (cap : Cap) (w : List Float)

@@ -10,7 +10,7 @@ ghost use mathlib.Core.Path.{_≡_};
 ghost use Prim.Native.Nat.{_≤_};
 ghost use mathlib.Core.Bool.{_&&_};
 ghost use lib.ListN.{length};
-ghost use Rattle.limits.specs.Matrix.{columnsOf};
+ghost use Rattle.limits.specs.Reading.{readOf};
 ghost use Rattle.weights.specs.Weights.{nonzeros};
 ghost use Rattle.halve.specs.Handed.{Ready, Countable};
 ghost use Rattle.rules.specs.Rules.{meets};
@@ -39,6 +39,7 @@ pub struct Tried {
 // Tries one more pass from w, and takes its weights unless it measures above the allowance and w meets the cap.
 pub fn try_pass(
     matrix: &[f64],
+    bits: &[u8],
     n: usize,
     start: &[f64],
     w: &mut [f64],
@@ -49,14 +50,14 @@ pub fn try_pass(
     allowance: f64,
     cap: Cap,
 ) -> Tried
-    requires { ⌜ Ready (now matrix) n (now w) (now numbers) (now indices) × (length (now start) ≡ length (now w))
+    requires { ⌜ Ready (now matrix) (now bits) n (now w) (now numbers) (now indices) × (length (now start) ≡ length (now w))
         × (length (now next) ≡ length (now w)) × (2 ≤ nonzeros (now w)) × Countable tally 2 ⌝ }
-    ensures { λ r. ⌜ TriedOnce (columnsOf (now (matrix .entry)) n) n (now (start .entry)) allowance cap
+    ensures { λ r. ⌜ TriedOnce (readOf (now (matrix .entry)) (now (bits .entry)) n) n (now (start .entry)) allowance cap
         (now (w .entry)) tally r (now (w .exit)) ⌝ }
 {
     copy(&mut next[..], &w[..]);
-    let after = halving_pass(matrix, n, &mut next[..], numbers, indices, tally);
-    let change = change_of(matrix, n, start, &next[..]);
+    let after = halving_pass(matrix, bits, n, &mut next[..], numbers, indices, tally);
+    let change = change_of(matrix, bits, n, start, &next[..]);
     let above = !(change <= allowance);
     if ends_there(above, cap, &w[..]) {
         return Tried {

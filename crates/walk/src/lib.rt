@@ -44,16 +44,17 @@ fn step(
     x: &mut [f64],
     free: &mut [u32],
     matrix: &[f64],
+    bits: &[u8],
     n: usize,
     cols: &[u32],
     scale: &[f64],
     from: Stand,
     g: &mut [f64],
 ) -> Went
-    requires { ⌜ Chosen (now matrix) n (now cols) (now scale) (length (now blocked)) × Roomy (length (now cols)) (now numbers)
+    requires { ⌜ Chosen (now matrix) (now bits) n (now cols) (now scale) (length (now blocked)) × Roomy (length (now cols)) (now numbers)
         (now blocked) (now x) (now free) (from .count) × (length (now g) ≡ length (now cols)) × (from .frozen ≤ 256) ⌝ }
     ensures { λ r. ⌜ StepHolds (now (numbers .exit)) (now (blocked .exit)) (now (x .exit)) (now (free .exit)) r
-        (stepOf plusZero (entryOf (now (matrix .entry)) n (now (cols .entry)) (now (scale .entry)))
+        (stepOf plusZero (entryOf (now (matrix .entry)) (now (bits .entry)) n (now (cols .entry)) (now (scale .entry)))
         (length (now (cols .entry))) (length (now (blocked .entry)))
         (held (now (numbers .entry)) (now (blocked .entry)) (now (x .entry)) (now (free .entry)) (from .count)
         (from .frozen) (from .rng))) ⌝ }
@@ -71,7 +72,7 @@ fn step(
             at: Stand { count, frozen, rng },
         };
     }
-    if !advance(numbers, rows, x, &free[..], matrix, n, cols, scale, g) {
+    if !advance(numbers, rows, x, &free[..], matrix, bits, n, cols, scale, g) {
         return Went {
             more: false,
             at: Stand { count, frozen, rng },
@@ -84,6 +85,7 @@ fn step(
         x,
         free,
         matrix,
+        bits,
         n,
         cols,
         scale,
@@ -106,16 +108,17 @@ fn steps(
     x: &mut [f64],
     free: &mut [u32],
     matrix: &[f64],
+    bits: &[u8],
     n: usize,
     cols: &[u32],
     scale: &[f64],
     from: Stand,
     g: &mut [f64],
 ) -> Phased
-    requires { ⌜ Chosen (now matrix) n (now cols) (now scale) (length (now blocked)) × Roomy (length (now cols)) (now numbers)
+    requires { ⌜ Chosen (now matrix) (now bits) n (now cols) (now scale) (length (now blocked)) × Roomy (length (now cols)) (now numbers)
         (now blocked) (now x) (now free) (from .count) × (length (now g) ≡ length (now cols)) × (from .frozen ≡ 0) ⌝ }
     ensures { λ r. ⌜ CourseHolds (now (numbers .exit)) (now (blocked .exit)) (now (x .exit)) (now (free .exit)) r
-        (courseOf plusZero (entryOf (now (matrix .entry)) n (now (cols .entry)) (now (scale .entry)))
+        (courseOf plusZero (entryOf (now (matrix .entry)) (now (bits .entry)) n (now (cols .entry)) (now (scale .entry)))
         (length (now (cols .entry))) (length (now (blocked .entry)))
         (held (now (numbers .entry)) (now (blocked .entry)) (now (x .entry)) (now (free .entry)) (from .count)
         (from .frozen) (from .rng))) ⌝ }
@@ -129,6 +132,7 @@ fn steps(
             x,
             free,
             matrix,
+            bits,
             n,
             cols,
             scale,
@@ -156,29 +160,31 @@ pub fn phase(
     x: &mut [f64],
     free: &mut [u32],
     matrix: &[f64],
+    bits: &[u8],
     n: usize,
     cols: &[u32],
     scale: &[f64],
     rng: SplitMix64,
     g: &mut [f64],
 ) -> Phased
-    requires { ⌜ Chosen (now matrix) n (now cols) (now scale) (length (now blocked)) × Roomy (length (now cols)) (now numbers)
+    requires { ⌜ Chosen (now matrix) (now bits) n (now cols) (now scale) (length (now blocked)) × Roomy (length (now cols)) (now numbers)
         (now blocked) (now x) (now free) 0 × (length (now g) ≡ length (now cols)) ⌝ }
     ensures { λ r. ⌜ CourseHolds (now (numbers .exit)) (now (blocked .exit)) (now (x .exit)) (now (free .exit)) r
-        (courseOf plusZero (entryOf (now (matrix .entry)) n (now (cols .entry)) (now (scale .entry)))
+        (courseOf plusZero (entryOf (now (matrix .entry)) (now (bits .entry)) n (now (cols .entry)) (now (scale .entry)))
         (length (now (cols .entry))) (length (now (blocked .entry)))
-        (begun plusZero (entryOf (now (matrix .entry)) n (now (cols .entry)) (now (scale .entry)))
+        (begun plusZero (entryOf (now (matrix .entry)) (now (bits .entry)) n (now (cols .entry)) (now (scale .entry)))
         (length (now (cols .entry))) (length (now (blocked .entry))) (now (x .entry))
         (axIn (length (now (blocked .entry))) (now (numbers .entry))) rng)) ⌝ }
 {
     fill_words(&mut free[..], 1);
-    let count = begin(numbers, blocked, matrix, n, cols, scale, &mut g[..]);
+    let count = begin(numbers, blocked, matrix, bits, n, cols, scale, &mut g[..]);
     steps(
         numbers,
         blocked,
         x,
         free,
         matrix,
+        bits,
         n,
         cols,
         scale,

@@ -31,11 +31,11 @@ returns : tie.Need-returns
 returns c =
     let at-reach = c .before .before in
     let at-turn-downhill = at-reach .before .before .before .before .before .before .before in
-    let at-start = at-turn-downhill .before .before .before .before .before .before .before .before .before .before in
+    let at-start = at-turn-downhill .before .before .before .before .before .before .before .before .before .before .before in
     let a = at-start .args in
     let p = at-start .pre in
-    no-way (entryOf (a .matrix .now) (a .n) (a .cols .now) (a .scale .now)) (a .rows) (a .numbers .now) (a .x .now) (a .free .now)
-    (a .g .now) (at-turn-downhill .turn-downhill .last .0) (at-turn-downhill .turn-downhill .last .1 .1 .1 .1 .1 .1 .0)
+    no-way (entryOf (a .matrix .now) (a .bits .now) (a .n) (a .cols .now) (a .scale .now)) (a .rows) (a .numbers .now) (a .x .now) (a .free .now)
+    (a .g .now) (at-turn-downhill .turn-downhill .last .0) (at-turn-downhill .turn-downhill .last .1 .1 .1 .1 .1 .1 .1 .0)
     (at-reach .reach .result)
     (at-turn-downhill .turn-downhill .ensures) (p .1 ∙ sym (p .2)) (at-reach .reach .ensures) (c .before .is-finite .result)
     (c .before .is-finite .ensures) (not-true _ (c .if1 .taken))
@@ -75,11 +75,11 @@ returns-2 c =
     let at-is-finite = at-if1 .before in
     let at-reach = at-is-finite .before in
     let at-turn-downhill = at-reach .before .before .before .before .before .before .before in
-    let at-start = at-turn-downhill .before .before .before .before .before .before .before .before .before .before in
+    let at-start = at-turn-downhill .before .before .before .before .before .before .before .before .before .before .before in
     let a = at-start .args in
     let p = at-start .pre in
-    goes-along (entryOf (a .matrix .now) (a .n) (a .cols .now) (a .scale .now)) (a .rows) (a .numbers .now) (a .x .now) (a .free .now)
-    (a .g .now) (at-turn-downhill .turn-downhill .last .0) (at-turn-downhill .turn-downhill .last .1 .1 .1 .1 .1 .1 .0)
+    goes-along (entryOf (a .matrix .now) (a .bits .now) (a .n) (a .cols .now) (a .scale .now)) (a .rows) (a .numbers .now) (a .x .now) (a .free .now)
+    (a .g .now) (at-turn-downhill .turn-downhill .last .0) (at-turn-downhill .turn-downhill .last .1 .1 .1 .1 .1 .1 .1 .0)
     (at-reach .reach .result)
     (at-turn-downhill .turn-downhill .ensures) (p .1 ∙ sym (p .2)) (at-reach .reach .ensures) (at-is-finite .is-finite .result)
     (a .rows + a .rows - 0) (at-move-rows .move-rows .last .0) (at-move-free .move-free .last .0)

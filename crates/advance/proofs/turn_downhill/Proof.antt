@@ -27,10 +27,13 @@ part-times-into-end c = search needs
 
 times-into-requires : tie.Need-times-into-requires
 times-into-requires c κs =
-    let a = c .before .before .before .before .before .before .before .args in
+    let a = c .before .before .before .before .before .before .before .before .args in
     let k : length (take (a .rows + a .rows - a .rows) (drop (a .rows) (a .numbers .now))) ≡ a .rows = length-part (a .rows)
-    (a .rows + a .rows - a .rows) (a .numbers .now) (omega arith) ∙ omega arith in
-    (rw k (c .before .before .before .before .before .before .before .pre .0), c .before .before .before .before .before .before .before .pre .1)
+    (a .rows + a .rows - a .rows) (a .numbers .now) (omega arith) ∙ omega arith in (
+      rw k (c .before .before .before .before .before .before .before .before .pre .0),
+      c .before .before
+          .before .before .before .before .before .before .pre .1,
+    )
 
 sub-dot : tie.Need-sub-dot
 sub-dot c = search needs
@@ -86,11 +89,11 @@ returns c =
     let at-turn-if = at-turn-if2 .before .before .before .before in
     let at-dot = at-turn-if .before .before in
     let at-times-into = at-dot .before .before .before .before .before .before in
-    let at-start = at-times-into .before .before .before .before .before .before .before .before in
+    let at-start = at-times-into .before .before .before .before .before .before .before .before .before in
     let a = at-start .args in
     let p = at-start .pre in
     let r = a .rows in
-    downhill (entryOf (a .matrix .now) (a .n) (a .cols .now) (a .scale .now)) r (r + r - r) (r - 0) (length (a .cols .now))
+    downhill (entryOf (a .matrix .now) (a .bits .now) (a .n) (a .cols .now) (a .scale .now)) r (r + r - r) (r - 0) (length (a .cols .now))
     (a .numbers .now) (a .g .now) (at-times-into .times-into .last .0) (at-turn-if2 .turn-if2 .last .0)
     (at-turn-if .turn-if .last .0) (at-dot .dot .result)
     (omega arith) (omega arith) (p .2) (p .1) (at-times-into .times-into .ensures) (at-dot .dot .ensures)

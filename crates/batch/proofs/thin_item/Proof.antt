@@ -28,20 +28,24 @@ returns c =
     ∙ sym (item-alone (a .rule) (a .source .edition) (a .matrix .now) (a .m) (a .n) (a .weights .now) _ _ _ (at-start .pre .0) (at-start .pre .1)))
     (at-test .if1 .taken) (c .refused .ensures)
 
+slice-aggregate-thin-sound : tie.Need-slice-aggregate-thin-sound
+slice-aggregate-thin-sound c = search needs
+
 array-borrow-prefix-start : tie.Need-array-borrow-prefix-start
 array-borrow-prefix-start c =
-    let at-fault = c .before in
+    let at-test = c .before in
+    let at-fault = at-test .before in
     let at-start = at-fault .before .before .before .before .before .before in
     let a = at-start .args in
     let none = item-alone (a .rule) (a .source .edition) (a .matrix .now) (a .m) (a .n) (a .weights .now) (length (a .output .now)) (length (a .numbers .now))
-    (length (a .indices .now)) (at-start .pre .0) (at-start .pre .1) ∙ sym (at-fault .item-fault .ensures) ∙ c .if1 .left in
+    (length (a .indices .now)) (at-start .pre .0) (at-start .pre .1) ∙ sym (at-fault .item-fault .ensures) ∙ at-test .if1 .left in
     let s = accepted (a .rule) (a .source .edition) (a .matrix .now) (a .m) (a .n) (a .weights .now) (length (a .output .now)) (length (a .numbers .now))
     (length (a .indices .now)) none in
     omega (arith, s .sized .few)
 
-slice-aggregate-thin-sound : tie.Need-slice-aggregate-thin-sound
-slice-aggregate-thin-sound c =
-    let at-test = c .before in
+slice-aggregate-thin-sound-2 : tie.Need-slice-aggregate-thin-sound-2
+slice-aggregate-thin-sound-2 c =
+    let at-test = c .before .before in
     let at-fault = at-test .before in
     let at-start = at-fault .before .before .before .before .before .before in
     let a = at-start .args in
@@ -53,7 +57,7 @@ slice-aggregate-thin-sound c =
 
 thin-sound-requires : tie.Need-thin-sound-requires
 thin-sound-requires c κs =
-    let at-test = c .before .before .before .before in
+    let at-test = c .before .before .before .before .before in
     let at-fault = at-test .before in
     let at-start = at-fault .before .before .before .before .before .before in
     let a = at-start .args in
@@ -80,7 +84,7 @@ same-length-3 c = search needs
 returns-2 : tie.Need-returns-2
 returns-2 c =
     let at-thin = c .before .before .before .before .before .before .before in
-    let at-test = at-thin .before .before .before .before .before in
+    let at-test = at-thin .before .before .before .before .before .before in
     let at-fault = at-test .before in
     let at-start = at-fault .before .before .before .before .before .before in
     let a = at-start .args in
@@ -95,8 +99,9 @@ thin-item-spec =
     item-fault-requires
     refused-requires
     returns
-    array-borrow-prefix-start
     slice-aggregate-thin-sound
+    array-borrow-prefix-start
+    slice-aggregate-thin-sound-2
     thin-sound-requires
     same-length
     same-length-2

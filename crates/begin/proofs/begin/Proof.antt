@@ -32,7 +32,7 @@ part-norms-into-end c = search needs
 
 norms-into-requires : tie.Need-norms-into-requires
 norms-into-requires c κs =
-    let p = c .before .before .before .before .before .before .before .pre .0 in
+    let p = c .before .before .before .before .before .before .before .before .pre .0 in
     record { low = search needs; high = search needs; short = search needs; few = p .few; paired = p .paired; inside = p .inside; sound = p .sound }
 
 array-borrow-prefix-first : tie.Need-array-borrow-prefix-first
@@ -79,11 +79,11 @@ block-first-requires c κs =
     let at-clear-words = c .before .before .before .before .before .before in
     let at-first-rows = at-clear-words .before .before .before in
     let at-norms-into = at-first-rows .before .before .before .before .before .before .before in
-    let at-start = at-norms-into .before .before .before .before .before .before .before .before in
+    let at-start = at-norms-into .before .before .before .before .before .before .before .before .before in
     let a = at-start .args in
     let p = at-start .pre in
     let r = length (a .blocked .now) in
-    let e = entryOf (a .matrix .now) (a .n) (a .cols .now) (a .scale .now) in
+    let e = entryOf (a .matrix .now) (a .bits .now) (a .n) (a .cols .now) (a .scale .now) in
     let l = length (a .cols .now) in
     let lb = at-clear-words .clear-words .kept .0 in
     let ln = normed-long e l r (r + r + r - (r + r)) (r - 0) (l / 4) (at-first-rows .first-rows .result) (a .numbers .now)
@@ -111,11 +111,11 @@ returns c =
     let at-clear-words = at-block-first .before .before .before .before .before .before .before in
     let at-first-rows = at-clear-words .before .before .before in
     let at-norms-into = at-first-rows .before .before .before .before .before .before .before in
-    let at-start = at-norms-into .before .before .before .before .before .before .before .before in
+    let at-start = at-norms-into .before .before .before .before .before .before .before .before .before in
     let a = at-start .args in
     let p = at-start .pre in
     let r = length (a .blocked .now) in
-    let e = entryOf (a .matrix .now) (a .n) (a .cols .now) (a .scale .now) in
+    let e = entryOf (a .matrix .now) (a .bits .now) (a .n) (a .cols .now) (a .scale .now) in
     let l = length (a .cols .now) in
     begun-is e l r (r + r + r - (r + r)) (r - 0) (l / 4) (at-first-rows .first-rows .result) (a .numbers .now)
     (at-norms-into .norms-into .last .0) _ (at-first-rows .first-rows .last .0) _ (omega arith) (omega arith) refl

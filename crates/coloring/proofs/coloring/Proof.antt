@@ -17,7 +17,7 @@ slice-aggregate-walk-anew c = sym (length-take-le _ _ (omega arith))
 
 walk-anew-requires : tie.Need-walk-anew-requires
 walk-anew-requires c κs =
-    let start = c .before .before .before .before .before .before .before .before .before .before in
+    let start = c .before .before .before .before .before .before .before .before .before .before .before in
     (start .pre .0, record { room = start .pre .2; wide = start .pre .1; marks = length-take-le _ _ (omega arith); most = omega arith })
 
 slice-relend-prefix-search-anew : tie.Need-slice-relend-prefix-search-anew
@@ -29,8 +29,7 @@ slice-aggregate-search-anew c = sym (length-take-le _ _ (omega arith))
 search-anew-requires : tie.Need-search-anew-requires
 search-anew-requires c κs =
     let at-walk-anew = c .before .before .before .before .before .before .before .before .before in
-    let at-here = at-walk-anew .before .before .before .before .before .before .before .before .before .before .before in
-    let start = at-here in
+    let start = at-walk-anew .before .before .before .before .before .before .before .before .before .before .before .before in
     let a = start .args in
     let m : length (take (length (a .blocked .now)) (at-walk-anew .walk-anew .last .0)) ≡ length (a .blocked .now) =
     length-take-le _ _ (omega (arith, at-walk-anew .walk-anew .kept .0)) in
@@ -49,11 +48,11 @@ returns : tie.Need-returns
 returns c =
     let at-search-anew = c .before .before .before .before .before in
     let at-walk-anew = at-search-anew .before .before .before .before .before .before .before .before .before .before in
-    let at-start = at-walk-anew .before .before .before .before .before .before .before .before .before .before .before in
+    let at-start = at-walk-anew .before .before .before .before .before .before .before .before .before .before .before .before in
     let a = at-start .args in
     let m : length (take (length (a .blocked .now)) (at-walk-anew .walk-anew .last .0)) ≡ length (a .blocked .now) =
     length-take-le _ _ (omega (arith, at-walk-anew .walk-anew .kept .0)) in
-    colors (entryOf (a .matrix .now) (a .n) (a .cols .now) (a .scale .now)) (length (a .cols .now)) (length (a .blocked .now))
+    colors (entryOf (a .matrix .now) (a .bits .now) (a .n) (a .cols .now) (a .scale .now)) (length (a .cols .now)) (length (a .blocked .now))
     (a .rng) _ _ _ _ _ _ _ (at-walk-anew .walk-anew .ensures) refl m (at-search-anew .search-anew .ensures)
 
 pub coloring-spec : {M : Type 1} → statement M

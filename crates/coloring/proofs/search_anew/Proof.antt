@@ -12,7 +12,7 @@ times-into-requires c κs = search needs
 
 local-search-requires : tie.Need-local-search-requires
 local-search-requires c κs =
-    let start = c .before .before .before .before .before .before .before .before .before .before .before .before in
+    let start = c .before .before .before .before .before .before .before .before .before .before .before .before .before in
     (rw (c .before .before .before .before .times-into .kept .0) (start .pre .0), start .pre .1)
 
 same-length : tie.Need-same-length
@@ -25,10 +25,10 @@ returns : tie.Need-returns
 returns c =
     let at-local-search = c .before .before .before .before in
     let at-times-into = at-local-search .before .before .before .before .before in
-    let at-start = at-times-into .before .before .before .before .before .before .before .before in
+    let at-start = at-times-into .before .before .before .before .before .before .before .before .before in
     let a = at-start .args in
     at-local-search .local-search .ensures ∙ ap
-    (searched (entryOf (a .matrix .now) (a .n) (a .cols .now) (a .scale .now)) (length (a .cols .now)) (a .x .now))
+    (searched (entryOf (a .matrix .now) (a .bits .now) (a .n) (a .cols .now) (a .scale .now)) (length (a .cols .now)) (a .x .now))
     (at-times-into .times-into .ensures)
 
 pub search-anew-spec : {M : Type 1} → statement M

@@ -28,8 +28,7 @@ walk-to-end-requires c κs =
     let at-fill-words = c .before .before .before .before .before .before in
     let at-clear2 = at-fill-words .before .before .before .before in
     let at-clear = at-clear2 .before .before .before .before in
-    let at-here = at-clear .before .before .before .before .before .before .before .before .before in
-    let start = at-here in
+    let start = at-clear .before .before .before .before .before .before .before .before .before .before in
     let a = start .args in (
       start .pre .0,
       roomy-still _ (a .numbers .now) _ (a .blocked .now) _ (a .x .now) _ (a .free .now) _ (start .pre .1)

@@ -17,16 +17,16 @@ use Rattle.coloring.proofs.walk_to_end.Statement.{statement}
 use Rattle.coloring.proofs.walk_to_end.Tie as tie
 
 abbrev Inv-loop : tie.InvT-loop
-Inv-loop numbers₀ blocked₀ x₀ free₀ matrix n cols scale places₀ subcols₀ subscale₀ subx₀ subfree₀ g₀ r₀ directions₀ left₀ numbers blocked x free places
+Inv-loop numbers₀ blocked₀ x₀ free₀ matrix bits n cols scale places₀ subcols₀ subscale₀ subx₀ subfree₀ g₀ r₀ directions₀ left₀ numbers blocked x free places
     subcols subscale subx subfree g r directions left =
     Roomy (length cols) numbers blocked x free 0 × (length numbers ≡ length numbers₀) × (length blocked ≡ length blocked₀) × (left ≡ freeOnes free)
     × Rooms places subcols subscale subx subfree g
-    × (walked plusZero (entryOf matrix n cols scale) (length cols) (length blocked₀) r₀
-    ≡ onward plusZero (entryOf matrix n cols scale) (length cols) (length blocked₀) (between (length blocked₀) numbers x free r directions))
+    × (walked plusZero (entryOf matrix bits n cols scale) (length cols) (length blocked₀) r₀
+    ≡ onward plusZero (entryOf matrix bits n cols scale) (length cols) (length blocked₀) (between (length blocked₀) numbers x free r directions))
     × (directions + 2 * freeOnes free ≤ 2 * length cols)
 
 abbrev μ-loop : tie.MeasureT-loop
-μ-loop numbers₀ blocked₀ x₀ free₀ matrix n cols scale places₀ subcols₀ subscale₀ subx₀ subfree₀ g₀ r₀ directions₀ left₀ numbers blocked x free places
+μ-loop numbers₀ blocked₀ x₀ free₀ matrix bits n cols scale places₀ subcols₀ subscale₀ subx₀ subfree₀ g₀ r₀ directions₀ left₀ numbers blocked x free places
     subcols subscale subx subfree g r directions left = left
 
 count-free-requires : tie.Need-count-free-requires Inv-loop μ-loop
@@ -34,7 +34,7 @@ count-free-requires c κs = search needs
 
 loop-holds : tie.Need-loop-holds Inv-loop μ-loop
 loop-holds c =
-    let start = c .before .before .before .before .before .before .before .before .before in (
+    let start = c .before .before .before .before .before .before .before .before .before .before in (
       start .pre .1,
       refl,
       refl,
@@ -65,7 +65,7 @@ slice-aggregate-next-phase-6 c = sym (c .before .before .before .before .before 
 next-phase-requires : tie.Need-next-phase-requires Inv-loop μ-loop
 next-phase-requires c κs =
     let at-loop = c .before .before .before .before .before .before .before .before .before .before .before in
-    let at-start = at-loop .before .before .before .before .before .before .before .before .before .before in
+    let at-start = at-loop .before .before .before .before .before .before .before .before .before .before .before in
     let few = at-start .pre .0 .few in
     let r = at-loop .loop .inv .4 in (
       (rw (at-loop .loop .inv .2) (at-start .pre .0), at-loop .loop .inv .0),
@@ -84,7 +84,7 @@ add-directions c =
     let at-next-phase = c .before .before .before .before .before .before .before .before .before .before .before .before .before .before .before in
     let at-loop-test = at-next-phase .before .before .before .before .before .before .before .before .before .before .before in
     let at-loop = at-loop-test .before in
-    let at-start = at-loop .before .before .before .before .before .before .before .before .before .before in
+    let at-start = at-loop .before .before .before .before .before .before .before .before .before .before .before in
     let a = at-start .args in
     let l = at-loop .loop in
     let step = rw (l .inv .2) at (at-next-phase .next-phase .ensures (l .directions)) in
@@ -92,7 +92,7 @@ add-directions c =
       arith,
       at-start .pre .0 .few,
       l .inv .6,
-      walk-few plusZero (entryOf (a .matrix .now) (a .n) (a .cols .now) (a .scale .now)) (length (a .cols .now))
+      walk-few plusZero (entryOf (a .matrix .now) (a .bits .now) (a .n) (a .cols .now) (a .scale .now)) (length (a .cols .now))
           (length (a .blocked .now)) (between (length (a .blocked .now)) (l .numbers) (l .x) (l .free) (l .r) (l .directions)) _ step
           (λ z. omega (arith, l .inv .3, at-loop-test .loop-test .taken)) (l .inv .0 .marks),
     )
@@ -106,7 +106,7 @@ loop-less c =
     .before .before .before .before in
     let at-loop-test = at-next-phase .before .before .before .before .before .before .before .before .before .before .before in
     let at-loop = at-loop-test .before in
-    let at-start = at-loop .before .before .before .before .before .before .before .before .before .before in
+    let at-start = at-loop .before .before .before .before .before .before .before .before .before .before .before in
     let a = at-start .args in
     let l = at-loop .loop in
     let step = rw (l .inv .2) at (at-next-phase .next-phase .ensures (l .directions)) in
@@ -114,7 +114,7 @@ loop-less c =
       arith,
       c .count-free2 .ensures,
       l .inv .3,
-      walk-falls plusZero (entryOf (a .matrix .now) (a .n) (a .cols .now) (a .scale .now)) (length (a .cols .now))
+      walk-falls plusZero (entryOf (a .matrix .now) (a .bits .now) (a .n) (a .cols .now) (a .scale .now)) (length (a .cols .now))
           (length (a .blocked .now)) (between (length (a .blocked .now)) (l .numbers) (l .x) (l .free) (l .r) (l .directions)) _ step
           (λ z. omega (arith, l .inv .3, at-loop-test .loop-test .taken)),
     )
@@ -125,7 +125,7 @@ loop-again c =
     .before .before .before .before in
     let at-loop-test = at-next-phase .before .before .before .before .before .before .before .before .before .before .before in
     let at-loop = at-loop-test .before in
-    let at-start = at-loop .before .before .before .before .before .before .before .before .before .before in
+    let at-start = at-loop .before .before .before .before .before .before .before .before .before .before .before in
     let a = at-start .args in
     let l = at-loop .loop in
     let step = rw (l .inv .2) at (at-next-phase .next-phase .ensures (l .directions)) in
@@ -135,20 +135,20 @@ loop-again c =
       kept .1 .0 ∙ l .inv .2,
       c .count-free2 .ensures,
       record {
-        places = kept .1 .1 .1 .1 .1 .1 .1 .1 .1 .0 ∙ l .inv .4 .places;
-        subcols = kept .1 .1 .1 .1 .1 .1 .1 .1 .1 .1 .0 ∙ l .inv .4 .subcols;
-        subscale = kept .1 .1 .1 .1 .1 .1 .1 .1 .1 .1 .1 .0 ∙ l .inv .4 .subscale;
-        subx = kept .1 .1 .1 .1 .1 .1 .1 .1 .1 .1 .1 .1 .0 ∙ l .inv .4 .subx;
-        subfree = kept .1 .1 .1 .1 .1 .1 .1 .1 .1 .1 .1 .1 .1 .0 ∙ l .inv .4 .subfree;
-        g = kept .1 .1 .1 .1 .1 .1 .1 .1 .1 .1 .1 .1 .1 .1 .0 ∙ l .inv .4 .g;
+        places = kept .1 .1 .1 .1 .1 .1 .1 .1 .1 .1 .0 ∙ l .inv .4 .places;
+        subcols = kept .1 .1 .1 .1 .1 .1 .1 .1 .1 .1 .1 .0 ∙ l .inv .4 .subcols;
+        subscale = kept .1 .1 .1 .1 .1 .1 .1 .1 .1 .1 .1 .1 .0 ∙ l .inv .4 .subscale;
+        subx = kept .1 .1 .1 .1 .1 .1 .1 .1 .1 .1 .1 .1 .1 .0 ∙ l .inv .4 .subx;
+        subfree = kept .1 .1 .1 .1 .1 .1 .1 .1 .1 .1 .1 .1 .1 .1 .0 ∙ l .inv .4 .subfree;
+        g = kept .1 .1 .1 .1 .1 .1 .1 .1 .1 .1 .1 .1 .1 .1 .1 .0 ∙ l .inv .4 .g;
       },
-      l .inv .5 ∙ walk-turn plusZero (entryOf (a .matrix .now) (a .n) (a .cols .now) (a .scale .now)) (length (a .cols .now))
+      l .inv .5 ∙ walk-turn plusZero (entryOf (a .matrix .now) (a .bits .now) (a .n) (a .cols .now) (a .scale .now)) (length (a .cols .now))
           (length (a .blocked .now)) (between (length (a .blocked .now)) (l .numbers) (l .x) (l .free) (l .r) (l .directions)) _ step
           (λ z. omega (arith, l .inv .3, at-loop-test .loop-test .taken)),
       omega (
         arith,
         l .inv .6,
-        walk-few plusZero (entryOf (a .matrix .now) (a .n) (a .cols .now) (a .scale .now)) (length (a .cols .now))
+        walk-few plusZero (entryOf (a .matrix .now) (a .bits .now) (a .n) (a .cols .now) (a .scale .now)) (length (a .cols .now))
             (length (a .blocked .now)) (between (length (a .blocked .now)) (l .numbers) (l .x) (l .free) (l .r) (l .directions)) _ step
             (λ z. omega (arith, l .inv .3, at-loop-test .loop-test .taken)) (l .inv .0 .marks),
       ),
@@ -168,10 +168,10 @@ same-length-4 c = search needs
 
 returns : tie.Need-returns Inv-loop μ-loop
 returns c =
-    let at-start = c .before .before .before .before .before .before .before .before .before .before .before in
+    let at-start = c .before .before .before .before .before .before .before .before .before .before .before .before in
     let a = at-start .args in
     let l = c .before .loop in
-    sym (l .inv .5 ∙ walk-over plusZero (entryOf (a .matrix .now) (a .n) (a .cols .now) (a .scale .now)) (length (a .cols .now))
+    sym (l .inv .5 ∙ walk-over plusZero (entryOf (a .matrix .now) (a .bits .now) (a .n) (a .cols .now) (a .scale .now)) (length (a .cols .now))
     (length (a .blocked .now)) (between (length (a .blocked .now)) (l .numbers) (l .x) (l .free) (l .r) (l .directions)) (omega arith))
 
 pub walk-to-end-spec : {M : Type 1} → statement M

@@ -16,39 +16,39 @@ array-borrow-prefix-cols : tie.Need-array-borrow-prefix-cols
 array-borrow-prefix-cols c = search needs
 
 slice-aggregate-count-up : tie.Need-slice-aggregate-count-up
-slice-aggregate-count-up c = sym (length-take-le _ _ (c .before .before .before .before .before .pre .1))
+slice-aggregate-count-up c = sym (length-take-le _ _ (c .before .before .before .before .before .before .pre .1))
 
 count-up-requires : tie.Need-count-up-requires
-count-up-requires c κs = front-few _ _ _ (c .before .before .before .before .before .pre .1)
+count-up-requires c κs = front-few _ _ _ (c .before .before .before .before .before .before .pre .1)
 
 array-borrow-prefix-scale : tie.Need-array-borrow-prefix-scale
 array-borrow-prefix-scale c = search needs
 
 slice-aggregate-fill : tie.Need-slice-aggregate-fill
-slice-aggregate-fill c = sym (length-take-le _ _ (c .before .before .before .before .before .before .before .before .pre .1))
+slice-aggregate-fill c = sym (length-take-le _ _ (c .before .before .before .before .before .before .before .before .before .pre .1))
 
 fill-requires : tie.Need-fill-requires
 fill-requires c κs = search needs
 
 array-share-prefix-cols : tie.Need-array-share-prefix-cols
 array-share-prefix-cols c = filled-long (λ i. i) _ _ _
-    (c .before .before .before .before .before .before .before .before .before .before .pre .1)
+    (c .before .before .before .before .before .before .before .before .before .before .before .pre .1)
     (c .before .before .before .before .count-up .ensures)
 
 slice-aggregate-coloring : tie.Need-slice-aggregate-coloring
 slice-aggregate-coloring c =
     let at-count-up = c .before .before .before .before .before in
-    let at-start = at-count-up .before .before .before .before .before .before in
+    let at-start = at-count-up .before .before .before .before .before .before .before in
     sym (length-take-le _ _ (filled-long (λ i. i) _ _ _ (at-start .pre .1) (at-count-up .count-up .ensures)))
 
 array-share-prefix-scale : tie.Need-array-share-prefix-scale
 array-share-prefix-scale c = filled-long (λ i. one) _ _ _
-    (c .before .before .before .before .before .before .before .before .before .before .before .pre .1)
+    (c .before .before .before .before .before .before .before .before .before .before .before .before .pre .1)
     (c .before .before .fill .ensures)
 
 slice-aggregate-coloring-2 : tie.Need-slice-aggregate-coloring-2
 slice-aggregate-coloring-2 c = sym (length-take-le _ _ (filled-long (λ i. one) _ _ _
-    (c .before .before .before .before .before .before .before .before .before .before .before .before .pre .1)
+    (c .before .before .before .before .before .before .before .before .before .before .before .before .before .pre .1)
     (c .before .before .before .fill .ensures)))
 
 slice-relend-prefix-coloring : tie.Need-slice-relend-prefix-coloring
@@ -56,7 +56,7 @@ slice-relend-prefix-coloring c = search needs
 
 slice-aggregate-coloring-3 : tie.Need-slice-aggregate-coloring-3
 slice-aggregate-coloring-3 c = sym (length-take-le _ _ (c .before .before .before .before .before .before .before .before .before
-    .before .before .before .before .before .before .pre .5))
+    .before .before .before .before .before .before .before .pre .5))
 
 new-requires : tie.Need-new-requires
 new-requires c κs = search needs
@@ -65,10 +65,10 @@ coloring-requires : tie.Need-coloring-requires
 coloring-requires c κs =
     let at-fill = c .before .before .before .before .before .before .before in
     let at-count-up = at-fill .before .before .before in
-    let at-shared-slice-known = at-count-up .before .before .before .before .before in
+    let at-shared-slice-known = at-count-up .before .before .before .before .before .before in
     let at-start = at-shared-slice-known .before in
     let indices : List ℕ = take (at-start .args .n) (at-start .args .indices .now) in
-    own-asked (at-start .args .matrix .now) (at-start .args .m) (at-start .args .n) _ _ indices
+    own-asked (at-start .args .matrix .now) (at-start .args .bits .now) (at-start .args .m) (at-start .args .n) _ _ indices
     (at-start .pre .0)
     (filled-back (λ i. i) _ _ _ (at-start .pre .1) (at-count-up .count-up .ensures))
     (filled-back (λ i. one) _ _ _ (at-start .pre .1) (at-fill .fill .ensures))
@@ -91,11 +91,11 @@ returns c =
     let at-new = at-coloring .before in
     let at-fill = at-new .before .before .before .before .before .before .before in
     let at-count-up = at-fill .before .before .before in
-    let at-shared-slice-known = at-count-up .before .before .before .before .before in
+    let at-shared-slice-known = at-count-up .before .before .before .before .before .before in
     let at-start = at-shared-slice-known .before in
     let indices : List ℕ = take (at-start .args .n) (at-start .args .indices .now) in
     subst (ColoredAs _ _)
-    (own-left (at-start .args .matrix .now) (at-start .args .m) (at-start .args .n) _ _ indices
+    (own-left (at-start .args .matrix .now) (at-start .args .bits .now) (at-start .args .m) (at-start .args .n) _ _ indices
     (at-start .pre .0)
     (filled-back (λ i. i) _ _ _ (at-start .pre .1) (at-count-up .count-up .ensures))
     (filled-back (λ i. one) _ _ _ (at-start .pre .1) (at-fill .fill .ensures))

@@ -7,6 +7,7 @@ use Rattle.discrepancy.proofs.Outcomes.{refused, colours-at, coloured}
 use borrow.Author.Needs.{needs}
 use mathlib.Core.Path.{sym, _∙_}
 use mathlib.Core.List.{List}
+use native.Mathlib.Omega.{arith}
 use lib.Ieee.{Float}
 use Rattle.discrepancy.proofs.discrepancy_coloring.Statement.{statement}
 use Rattle.discrepancy.proofs.discrepancy_coloring.Tie as tie
@@ -17,45 +18,49 @@ coloring-fault-requires c κs = search needs
 returns : tie.Need-returns
 returns c = refused _ _ _ _ _ _ _ _ (c .before .coloring-fault .ensures) (c .if1 .taken)
 
-array-borrow-prefix-x : tie.Need-array-borrow-prefix-x
-array-borrow-prefix-x c = accepted _ _ _ _ _ _ (sym (c .before .coloring-fault .ensures) ∙ c .if1 .left) .columns
-
 slice-aggregate-color-all : tie.Need-slice-aggregate-color-all
-slice-aggregate-color-all c = sym (length-take-le _ _ (accepted _ _ _ _ _ _ (sym (c .before .before .coloring-fault .ensures) ∙ c .before .if1 .left) .columns))
+slice-aggregate-color-all c = search needs
+
+array-borrow-prefix-x : tie.Need-array-borrow-prefix-x
+array-borrow-prefix-x c = accepted _ _ _ _ _ _ (sym (c .before .before .coloring-fault .ensures) ∙ c .before .if1 .left) .columns
+
+slice-aggregate-color-all-2 : tie.Need-slice-aggregate-color-all-2
+slice-aggregate-color-all-2 c =
+    sym (length-take-le _ _ (accepted _ _ _ _ _ _ (sym (c .before .before .before .coloring-fault .ensures) ∙ c .before .before .if1 .left) .columns))
 
 color-all-requires : tie.Need-color-all-requires
 color-all-requires c κs =
-    let a = accepted _ _ _ _ _ _ (sym (c .before .before .before .before .coloring-fault .ensures) ∙ c .before .before .before .if1 .left) in
-    (a .area, a .columns, a .rows, length-take-le _ _ (a .columns), a .floats, a .words, a .within)
+    let a = accepted _ _ _ _ _ _ (sym (c .before .before .before .before .before .coloring-fault .ensures) ∙ c .before .before .before .before .if1 .left) in
+    (record { doubles = λ e. a .area; votes = λ h. absurd (omega arith) }, a .columns, a .rows, length-take-le _ _ (a .columns), a .floats, a .words, a .within)
 
 array-share-prefix-x : tie.Need-array-share-prefix-x
 array-share-prefix-x c =
     let at-color-all = c .before .before .before .before .before .before in
-    let at-if1 = at-color-all .before .before .before .before in
+    let at-if1 = at-color-all .before .before .before .before .before in
     let at-coloring-fault = at-if1 .before in
-    back-long _ (at-color-all .color-all .last .1 .1 .1 .1 .0) _
+    back-long _ (at-color-all .color-all .last .1 .1 .1 .1 .1 .0) _
     (accepted _ _ _ _ _ _ (sym (at-coloring-fault .coloring-fault .ensures) ∙ at-if1 .if1 .left) .columns)
-    (at-color-all .color-all .kept .1 .1 .1 .1 .0)
+    (at-color-all .color-all .kept .1 .1 .1 .1 .1 .0)
 
 slice-aggregate-write-colours : tie.Need-slice-aggregate-write-colours
 slice-aggregate-write-colours c =
     let at-color-all = c .before .before .before .before .before .before .before in
-    let at-if1 = at-color-all .before .before .before .before in
+    let at-if1 = at-color-all .before .before .before .before .before in
     let at-coloring-fault = at-if1 .before in
     sym
     (length-take-le _ _
-    (back-long _ (at-color-all .color-all .last .1 .1 .1 .1 .0) _
+    (back-long _ (at-color-all .color-all .last .1 .1 .1 .1 .1 .0) _
     (accepted _ _ _ _ _ _ (sym (at-coloring-fault .coloring-fault .ensures) ∙ at-if1 .if1 .left) .columns)
-    (at-color-all .color-all .kept .1 .1 .1 .1 .0)))
+    (at-color-all .color-all .kept .1 .1 .1 .1 .1 .0)))
 
 write-colours-requires : tie.Need-write-colours-requires
 write-colours-requires c κs =
     let at-color-all = c .before .before .before .before .before .before .before in
-    let at-if1 = at-color-all .before .before .before .before in
+    let at-if1 = at-color-all .before .before .before .before .before in
     let at-coloring-fault = at-if1 .before in
     let a = accepted _ _ _ _ _ _ (sym (at-coloring-fault .coloring-fault .ensures) ∙ at-if1 .if1 .left) in
-    a .colours ∙ sym (length-take-le _ _ (back-long _ (at-color-all .color-all .last .1 .1 .1 .1 .0) _ (a .columns)
-    (at-color-all .color-all .kept .1 .1 .1 .1 .0)))
+    a .colours ∙ sym (length-take-le _ _ (back-long _ (at-color-all .color-all .last .1 .1 .1 .1 .1 .0) _ (a .columns)
+    (at-color-all .color-all .kept .1 .1 .1 .1 .1 .0)))
 
 clear-requires : tie.Need-clear-requires
 clear-requires c κs = search needs
@@ -78,12 +83,12 @@ returns-2 c =
     let at-clear = at-clear-words .before .before .before .before in
     let at-write-colours = at-clear .before .before .before in
     let at-color-all = at-write-colours .before .before .before .before .before .before .before .before in
-    let at-if1 = at-color-all .before .before .before .before in
+    let at-if1 = at-color-all .before .before .before .before .before in
     let at-coloring-fault = at-if1 .before in
     let e = sym (at-coloring-fault .coloring-fault .ensures) ∙ at-if1 .if1 .left in
     let a = accepted _ _ _ _ _ _ e in
-    let x : List Float = at-color-all .color-all .last .1 .1 .1 .1 .0 in
-    let kept = at-color-all .color-all .kept .1 .1 .1 .1 in
+    let x : List Float = at-color-all .color-all .last .1 .1 .1 .1 .1 .0 in
+    let kept = at-color-all .color-all .kept .1 .1 .1 .1 .1 in
     coloured _ _ _ _ _ _ _ _ _ _ _ (at-color-all .color-all .result) e
     (colours-at (front-back _ x _ (a .columns) (kept .0)) (at-color-all .color-all .ensures))
     (length-take-le _ _ (back-long _ x _ (a .columns) (kept .0)))
@@ -97,8 +102,9 @@ discrepancy-coloring-spec =
     (tie.spec
     coloring-fault-requires
     returns
-    array-borrow-prefix-x
     slice-aggregate-color-all
+    array-borrow-prefix-x
+    slice-aggregate-color-all-2
     color-all-requires
     array-share-prefix-x
     slice-aggregate-write-colours

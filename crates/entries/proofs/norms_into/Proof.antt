@@ -1,131 +1,69 @@
--- `entries::norms_into` meets its contract: after p turns each row has the sum over the first p columns, and a turn adds one term to each.
+-- `entries::norms_into` meets its contract: without bits it is that of doubles, and of bits every row has the sum of the scales' squares.
 use borrow.Author.Needs.{needs}
-use Prim.Native.Nat.{_-_, _≤_}
-use mathlib.Core.Path.{_≡_, refl, _∙_}
-use native.Mathlib.Nat.{add-sub-cancel-left}
+use mathlib.Core.Path.{_≡_, sym, ap, subst, _∙_}
 use native.Mathlib.Omega.{arith}
-use lib.Ieee.{mul, binary64}
+use lib.Ieee.{Float}
 use lib.ListN.{length}
-use Rattle.seq.specs.Sums.{sumFrom, plusZero}
+use Rattle.seq.specs.Lists.{repeated}
+use Rattle.seq.specs.Sums.{sumTo, plusZero, product}
+use Rattle.limits.proofs.ReadsAs.{no-bits}
+use Rattle.linear.specs.Vectors.{dotOf}
 use Rattle.entries.specs.Entries.{entryOf}
+use Rattle.entries.specs.ChosenColumns.{Chosen}
 use Rattle.entries.specs.Rows.{rowNorms}
-use Rattle.entries.proofs.Reading.{one-more}
+use Rattle.entries.proofs.Reading.{same-norms}
 use Rattle.entries.proofs.norms_into.Statement.{statement}
 use Rattle.entries.proofs.norms_into.Tie as tie
 
-abbrev Inv-loop : tie.InvT-loop
-Inv-loop acc₀ matrix n cols scale p₀ acc p =
-    (p ≤ length cols) × (length acc ≡ length acc₀) × (acc ≡ rowNorms plusZero (entryOf matrix n cols scale) p (length acc₀))
+norms-of-doubles-requires : tie.Need-norms-of-doubles-requires
+norms-of-doubles-requires c κs =
+    let at-before = c .before .before .before .before .before .before in
+    let at-start = at-before .before in
+    let a = at-start .args in
+    subst (λ b. Chosen (a .matrix .now) b (a .n) (a .cols .now) (a .scale .now) (length (a .acc .now))) (no-bits (a .bits .now) (omega arith)) (at-start .pre)
 
-abbrev μ-loop : tie.MeasureT-loop
-μ-loop acc₀ matrix n cols scale p₀ acc p = length cols - p
+dot-requires : tie.Need-dot-requires
+dot-requires c κs = search needs
 
-clear-requires : tie.Need-clear-requires Inv-loop μ-loop
-clear-requires c κs = search needs
+fill-requires : tie.Need-fill-requires
+fill-requires c κs = search needs
 
-loop-holds : tie.Need-loop-holds Inv-loop μ-loop
-unfolding sumFrom
-loop-holds c = (omega arith, refl, rw (c .before .before .clear .kept .0) (c .before .before .clear .ensures))
-
-mul-a : tie.Need-mul-a Inv-loop μ-loop
-mul-a c = search needs
-
-shared-slice-read-a : tie.Need-shared-slice-read-a Inv-loop μ-loop
-shared-slice-read-a c = search needs
-
-cast-a : tie.Need-cast-a Inv-loop μ-loop
-cast-a c = omega (arith, c .shared-slice-known4 .given (c .before .before .loop .p))
-
-mul-a-2 : tie.Need-mul-a-2 Inv-loop μ-loop
-mul-a-2 c = omega (
-  arith,
-  c .before .before .before .before .before .before .before .before .before .before .before .pre .inside
-      (c .before .before .loop .p) (c .before .loop-test .taken),
-)
-
-add-e : tie.Need-add-e Inv-loop μ-loop
-add-e c = omega (
-  arith,
-  c .before .before .before .before .before .before .before .before .before .before .before .pre .inside
-      (c .before .before .loop .p) (c .before .loop-test .taken),
-)
-
-mul-s : tie.Need-mul-s Inv-loop μ-loop
-mul-s c = search needs
-
-shared-slice-read-s : tie.Need-shared-slice-read-s Inv-loop μ-loop
-shared-slice-read-s c = omega (arith, c .before .before .before .before .before .before .before .before .before .before .before .before .pre .paired)
-
-mul-add-squares : tie.Need-mul-add-squares Inv-loop μ-loop
-mul-add-squares c =
-    let at-loop-test = c .before .before .before in
-    let at-loop = at-loop-test .before in
-    let at-start = at-loop .before .before .before .before .before .before .before .before .before in
-    omega (arith, at-start .pre .inside (at-loop .loop .p) (at-loop-test .loop-test .taken))
-
-sub-add-squares : tie.Need-sub-add-squares Inv-loop μ-loop
-sub-add-squares c = search needs
-
-part-add-squares-start : tie.Need-part-add-squares-start Inv-loop μ-loop
-part-add-squares-start c = search needs
-
-part-add-squares-end : tie.Need-part-add-squares-end Inv-loop μ-loop
-part-add-squares-end c =
-    let at-loop-test = c .before .before .before in
-    let at-loop = at-loop-test .before in
-    let at-start = at-loop .before .before .before .before .before .before .before .before .before in
-    omega (arith, at-start .pre .inside (at-loop .loop .p) (at-loop-test .loop-test .taken))
-
-add-squares-requires : tie.Need-add-squares-requires Inv-loop μ-loop
-add-squares-requires c κs = search needs
-
-add-p : tie.Need-add-p Inv-loop μ-loop
-add-p c = search needs
-
-loop-less : tie.Need-loop-less Inv-loop μ-loop
-loop-less c = search needs
-
-loop-again : tie.Need-loop-again Inv-loop μ-loop
-loop-again c =
-    let a = c .before .before .before .before .before .before .before .before .before .before .before .before .before .before .before .before .before .args in
-    let l = c .before .before .before .before .before .before .before .before .loop in
-    let e = entryOf (a .matrix .now) (a .n) (a .cols .now) (a .scale .now) in (
-      omega arith,
-      c .before .before .add-squares .kept .0 ∙ l .inv .1,
-      simp add-sub-cancel-left at (c .before .before .add-squares .ensures) ∙ one-more plusZero
-          (λ q i. mul binary64 (e q i) (e q i)) (l .acc) (l .p) _ (l .inv .2),
-    )
-
-same-length : tie.Need-same-length Inv-loop μ-loop
+same-length : tie.Need-same-length
 same-length c = search needs
 
-returns : tie.Need-returns Inv-loop μ-loop
+returns : tie.Need-returns
 returns c =
-    let all : c .before .loop .p ≡ length (c .before .before .before .before .before .before .before .before .before .before .args .cols .now) = omega arith in
-    rw (← all, ← c .before .before .before .before .clear .kept .0) (c .before .loop .inv .2)
+    let a = c .before .before .before .before .before .before .before .before .before .before .args in
+    let at-norms = c .before .before in
+    subst (λ b. at-norms .norms-of-doubles .last .0
+    ≡ rowNorms plusZero (entryOf (a .matrix .now) b (a .n) (a .cols .now) (a .scale .now)) (length (a .cols .now)) (length (a .acc .now)))
+    (sym (no-bits (a .bits .now) (omega arith))) (at-norms .norms-of-doubles .ensures)
+
+same-length-2 : tie.Need-same-length-2
+same-length-2 c = search needs
+
+returns-2 : tie.Need-returns-2
+unfolding dotOf
+returns-2 c =
+    let at-fill = c .before .before in
+    let at-dot = at-fill .before in
+    let at-before = at-dot .before .before in
+    let at-known = at-before .before in
+    let at-start = at-known .before .before .before .before .before in
+    let a = at-start .args in
+    at-fill .fill .ensures ∙ ap (λ (x : Float). repeated x (length (a .acc .now)))
+    (at-dot .dot .ensures ∙ ap (sumTo plusZero (product (a .scale .now) (a .scale .now))) (at-start .pre .paired))
+    ∙ same-norms plusZero (a .matrix .now) (a .bits .now) (a .n) (a .cols .now) (a .scale .now) (length (a .cols .now)) (length (a .acc .now))
+    (omega arith) (at-known .shared-slice-known4 .given)
 
 pub norms-into-spec : {M : Type 1} → statement M
 norms-into-spec =
     tie.close
     (tie.spec
-    Inv-loop
-    μ-loop
-    clear-requires
-    loop-holds
-    mul-a
-    shared-slice-read-a
-    cast-a
-    mul-a-2
-    add-e
-    mul-s
-    shared-slice-read-s
-    mul-add-squares
-    sub-add-squares
-    part-add-squares-start
-    part-add-squares-end
-    add-squares-requires
-    add-p
-    loop-less
-    loop-again
+    norms-of-doubles-requires
+    dot-requires
+    fill-requires
     same-length
-    returns)
+    returns
+    same-length-2
+    returns-2)

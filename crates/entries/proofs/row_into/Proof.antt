@@ -9,16 +9,16 @@ use Rattle.entries.proofs.row_into.Statement.{statement}
 use Rattle.entries.proofs.row_into.Tie as tie
 
 abbrev Inv-loop : tie.InvT-loop
-Inv-loop v₀ matrix n cols scale i p₀ v p = Filled (λ q. entryOf matrix n cols scale q i) v₀ p v
+Inv-loop v₀ matrix bits n cols scale i p₀ v p = Filled (λ q. entryOf matrix bits n cols scale q i) v₀ p v
 
 abbrev μ-loop : tie.MeasureT-loop
-μ-loop v₀ matrix n cols scale i p₀ v p = length v₀ - p
+μ-loop v₀ matrix bits n cols scale i p₀ v p = length v₀ - p
 
 loop-holds : tie.Need-loop-holds Inv-loop μ-loop
 loop-holds c = start _ _
 
 entry-requires : tie.Need-entry-requires Inv-loop μ-loop
-entry-requires c κs = (c .before .before .before .before .before .before .pre .0, omega arith)
+entry-requires c κs = (c .before .before .before .before .before .before .before .pre .0, omega arith)
 
 mul-v : tie.Need-mul-v Inv-loop μ-loop
 mul-v c = search needs
@@ -39,7 +39,7 @@ same-length : tie.Need-same-length Inv-loop μ-loop
 same-length c = search needs
 
 returns : tie.Need-returns Inv-loop μ-loop
-returns c = rw (← c .before .before .before .before .before .before .pre .1) (whole (c .before .loop .inv) (omega arith))
+returns c = rw (← c .before .before .before .before .before .before .before .pre .1) (whole (c .before .loop .inv) (omega arith))
 
 pub row-into-spec : {M : Type 1} → statement M
 row-into-spec =

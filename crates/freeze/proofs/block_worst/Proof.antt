@@ -27,10 +27,10 @@ same-length-2 c = search needs
 
 returns : tie.Need-returns
 returns c =
-    let at-start = c .before .before .before .before .before .before .before .before .before .before in
+    let at-start = c .before .before .before .before .before .before .before .before .before .before .before in
     let a = at-start .args in
     all-blocked _ _ (a .numbers .now) (a .blocked .now) _ (c .before .worst .result)
-    (worst-is (entryOf (a .matrix .now) (a .n) (a .cols .now) (a .scale .now)) (length (a .cols .now)) (a .numbers .now)
+    (worst-is (entryOf (a .matrix .now) (a .bits .now) (a .n) (a .cols .now) (a .scale .now)) (length (a .cols .now)) (a .numbers .now)
     (a .blocked .now) (a .count) _ (omega arith) (c .before .worst .ensures)) (c .if1 .taken)
 
 same-length-3 : tie.Need-same-length-3
@@ -41,7 +41,7 @@ same-length-4 c = search needs
 
 returns-2 : tie.Need-returns-2
 returns-2 c =
-    let a = c .before .before .before .before .before .before .before .before .before .before .before .args in
+    let a = c .before .before .before .before .before .before .before .before .before .before .before .before .args in
     basis-full _ _ (a .numbers .now) (a .blocked .now) _ (c .before .before .worst .result) (c .if2 .taken)
 
 mul-blocked : tie.Need-mul-blocked
@@ -70,8 +70,8 @@ part-block-row-end c = search needs
 
 block-row-requires : tie.Need-block-row-requires
 block-row-requires c κs =
-    let a = c .before .before .before .before .before .before .before .before .before .before .before .before .before .args in
-    let p = c .before .before .before .before .before .before .before .before .before .before .before .before .before .pre in
+    let a = c .before .before .before .before .before .before .before .before .before .before .before .before .before .before .args in
+    let p = c .before .before .before .before .before .before .before .before .before .before .before .before .before .before .pre in
     (chosen-own (p .0), p .1, rest-room _ _ (a .numbers .now) (omega arith), p .3)
 
 same-length-5 : tie.Need-same-length-5
@@ -89,9 +89,9 @@ returns-3 c =
     let at-if2 = at-block-row .before .before .before in
     let at-if1 = at-if2 .before in
     let at-worst = at-if1 .before in
-    let at-start = at-worst .before .before .before .before .before .before .before .before .before in
+    let at-start = at-worst .before .before .before .before .before .before .before .before .before .before in
     let a = at-start .args in
-    let e = entryOf (a .matrix .now) (a .n) (a .cols .now) (a .scale .now) in
+    let e = entryOf (a .matrix .now) (a .bits .now) (a .n) (a .cols .now) (a .scale .now) in
     blocks e (length (a .cols .now)) (a .numbers .now) (a .blocked .now) (a .count) (at-worst .worst .result)
     (at-block-row .block-row .result) (at-block-row .block-row .last .0)
     (worst-is e (length (a .cols .now)) (a .numbers .now) (a .blocked .now) (a .count) _ (omega arith) (at-worst .worst .ensures))

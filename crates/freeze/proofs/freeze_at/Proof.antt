@@ -60,10 +60,10 @@ block-worst-requires : tie.Need-block-worst-requires
 block-worst-requires c κs =
     let at-insert = c .before .before .before .before .before .before .before in
     let at-axis-into = at-insert .before .before .before .before .before in
-    let at-start = at-axis-into .before .before .before .before .before .before .before .before .before .before .before .before in
+    let at-start = at-axis-into .before .before .before .before .before .before .before .before .before .before .before .before .before in
     let a = at-start .args in
     let p = at-start .pre in
-    let r = room-after (entryOf (a .matrix .now) (a .n) (a .cols .now) (a .scale .now)) (length (a .cols .now)) (a .numbers .now)
+    let r = room-after (entryOf (a .matrix .now) (a .bits .now) (a .n) (a .cols .now) (a .scale .now)) (length (a .cols .now)) (a .numbers .now)
     (a .blocked .now) (a .x .now) (a .free .now) (a .count) (a .p) (at-insert .insert .result) 0 nan
     (at-insert .insert .last .0) [] [] (p .1) (at-axis-into .axis-into .last .0) (at-insert .insert .kept .0)
     (at-insert .insert .ensures) in
@@ -90,10 +90,10 @@ returns c =
     let at-insert = at-block-worst .before .before .before .before .before .before .before .before in
     let at-axis-into = at-insert .before .before .before .before .before in
     let at-signum = at-axis-into .before .before in
-    let at-start = at-signum .before .before .before .before .before .before .before .before .before .before in
+    let at-start = at-signum .before .before .before .before .before .before .before .before .before .before .before in
     let a = at-start .args in
     let p = at-start .pre in
-    freezes-at (entryOf (a .matrix .now) (a .n) (a .cols .now) (a .scale .now)) (length (a .cols .now)) (a .numbers .now) (a .blocked .now)
+    freezes-at (entryOf (a .matrix .now) (a .bits .now) (a .n) (a .cols .now) (a .scale .now)) (length (a .cols .now)) (a .numbers .now) (a .blocked .now)
     (a .x .now) (a .free .now) (a .count) (a .p) (at-insert .insert .result) (at-block-worst .block-worst .result)
     (at-signum .signum .result) (at-insert .insert .last .0) (at-block-worst .block-worst .last .0)
     (at-block-worst .block-worst .last .1 .1 .0) (p .1)

@@ -3,7 +3,7 @@ use borrow.Author.Needs.{needs}
 use mathlib.Core.Path.{sym, _∙_}
 use native.Mathlib.Omega.{arith}
 use lib.Seq.{length-take-le}
-use Rattle.limits.specs.Matrix.{columnsOf}
+use Rattle.limits.specs.Reading.{readOf}
 use Rattle.halve.specs.Handed.{halvesOf}
 use Rattle.halve.proofs.Columns.{halve-none, halve-some}
 use Rattle.halve.proofs.Calls.{lent}
@@ -24,8 +24,8 @@ same-length c = search needs
 
 returns : tie.Need-returns
 returns c =
-    let a = c .before .before .before .before .before .before .before .before .before .before .args in
-    halve-none (columnsOf (a .matrix .now) (a .n)) (a .n) (a .omega) (a .rest .now) (halvesOf (a .w .now) (a .tally))
+    let a = c .before .before .before .before .before .before .before .before .before .before .before .args in
+    halve-none (readOf (a .matrix .now) (a .bits .now) (a .n)) (a .n) (a .omega) (a .rest .now) (halvesOf (a .w .now) (a .tally))
     (c .before .before .remaining-into .ensures .long ∙ c .if1 .taken)
 
 array-share-prefix-some : tie.Need-array-share-prefix-some
@@ -54,7 +54,7 @@ slice-aggregate-halve-some-4 c = sym (length-take-le _ _ (omega arith))
 
 halve-some-requires : tie.Need-halve-some-requires
 halve-some-requires c κs =
-    let v = c .before .before .before .before .before .before .before .before .before .before .before .before .before .before .before .before .pre in
+    let v = c .before .before .before .before .before .before .before .before .before .before .before .before .before .before .before .before .before .pre in
     let p = c .before .before .before .before .before .before .before .before .remaining-into .ensures in (
       lent (v .0) (v .1) (v .2) p (length-take-le _ _ (omega arith)) (length-take-le _ _ (omega arith)) (length-take-le _ _ (omega arith)),
       v .3,
@@ -74,10 +74,10 @@ returns-2 c =
     let at-halve-some = c .before .before .before .before .before .before .before .before in
     let at-if1 = at-halve-some .before .before .before .before .before .before .before in
     let at-remaining-into = at-if1 .before .before in
-    let at-start = at-remaining-into .before .before .before .before .before .before .before .before in
+    let at-start = at-remaining-into .before .before .before .before .before .before .before .before .before in
     let a = at-start .args in
     let p = at-remaining-into .remaining-into .ensures in
-    halve-some (columnsOf (a .matrix .now) (a .n)) (a .n) (a .omega) (a .rest .now) (halvesOf (a .w .now) (a .tally))
+    halve-some (readOf (a .matrix .now) (a .bits .now) (a .n)) (a .n) (a .omega) (a .rest .now) (halvesOf (a .w .now) (a .tally))
     (λ e. at-if1 .if1 .left (sym (p .long) ∙ e)) _ (rw (p .front) at (at-halve-some .halve-some .ensures))
 
 pub halve-spec : {M : Type 1} → statement M

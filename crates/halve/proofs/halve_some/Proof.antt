@@ -13,10 +13,10 @@ scales-into-requires c κs = search needs
 coloring-requires : tie.Need-coloring-requires
 coloring-requires c κs =
     let at-slice-known6 = c .before .before .before .before in
-    let at-shared-slice-known = at-slice-known6 .before .before .before .before .before .before .before .before .before .before .before .before in
+    let at-shared-slice-known = at-slice-known6 .before .before .before .before .before .before .before .before .before .before .before .before .before in
     let a = at-shared-slice-known .before .args in
     let v = at-shared-slice-known .before .pre .0 in
-    let inside = column-inside (a .matrix .now) (a .n) (a .w .now) (a .omega) (a .some .now) (v .whole) (v .inside .below) in (
+    let inside = column-inside (a .matrix .now) (a .bits .now) (a .n) (a .w .now) (a .omega) (a .some .now) (v .whole) (v .inside .below) in (
       record {
         low = omega arith;
         high = omega arith;
@@ -24,7 +24,7 @@ coloring-requires c κs =
         few = v .few;
         paired = at-slice-known6 .before .before .scales-into .kept .0 ∙ v .scales;
         inside = inside;
-        sound = λ p i h t. finite-entry (a .matrix .now) (a .n) (a .some .now)
+        sound = λ p i h t. finite-entry (a .matrix .now) (a .bits .now) (a .n) (a .some .now)
             (at-slice-known6 .before .before .scales-into .last .0) p i (at-shared-slice-known .shared-slice-known .given _)
             (at-slice-known6 .slice-known6 .given p) (v .small) (inside p h) t;
       },
@@ -33,20 +33,24 @@ coloring-requires c κs =
     )
 
 sigma-of-requires : tie.Need-sigma-of-requires
-sigma-of-requires c κs = search needs
+sigma-of-requires c κs =
+    let at-coloring = c .before .before .before .before .before .before .before in
+    let at-start = at-coloring .before .before .before .before .before .before .before .before .before .before .before .before
+    .before .before .before .before .before .before .before in
+    omega (arith, at-coloring .coloring .kept .1 .1 .1 .1 .1 .0, at-start .pre .0 .colours, at-start .pre .0 .few)
 
 double-or-zero-requires : tie.Need-double-or-zero-requires
 double-or-zero-requires c κs =
     let at-coloring = c .before .before .before .before .before .before .before .before .before .before in
     let at-start = at-coloring .before .before .before .before .before .before .before .before .before .before .before .before
-    .before .before .before .before .before .before in
-    (at-coloring .coloring .kept .1 .1 .1 .1 .0 ∙ at-start .pre .0 .colours, at-start .pre .0 .inside)
+    .before .before .before .before .before .before .before in
+    (at-coloring .coloring .kept .1 .1 .1 .1 .1 .0 ∙ at-start .pre .0 .colours, at-start .pre .0 .inside)
 
 add-directions : tie.Need-add-directions
 add-directions c =
     let at-coloring = c .before .before .before .before .before .before .before .before .before .before .before .before .before .before .before in
     let at-start = at-coloring .before .before .before .before .before .before .before .before .before .before .before .before
-    .before .before .before .before .before .before in
+    .before .before .before .before .before .before .before in
     let fit = directions-fit _ _ _ _ _ (at-start .pre .1) (at-start .pre .0 .few) (at-coloring .coloring .ensures) in
     omega (arith, fit)
 
@@ -55,7 +59,7 @@ add-sweeps c =
     let at-coloring = c .before .before .before .before .before .before .before .before
     .before .before .before .before .before .before .before .before .before in
     let at-start = at-coloring .before .before .before .before .before .before .before .before .before .before .before .before
-    .before .before .before .before .before .before in
+    .before .before .before .before .before .before .before in
     let fit = sweeps-fit _ _ _ _ _ (at-start .pre .1) (at-start .pre .0 .few) (at-coloring .coloring .ensures) in
     omega (arith, fit)
 
@@ -83,10 +87,10 @@ returns c =
     let at-sigma-of = at-double-or-zero .before .before .before in
     let at-coloring = at-sigma-of .before .before .before .before .before .before .before .before in
     let at-scales-into = at-coloring .before .before .before .before .before .before .before in
-    let at-start = at-scales-into .before .before .before .before .before .before .before .before .before .before .before in
+    let at-start = at-scales-into .before .before .before .before .before .before .before .before .before .before .before .before in
     let a = at-start .args in
     let v = at-start .pre .0 in
-    halved-by (a .matrix .now) (a .n) (a .w .now) (a .omega) (a .some .now) (v .whole) (v .inside .below) (a .tally .rng) _ _ _ _
+    halved-by (a .matrix .now) (a .bits .now) (a .n) (a .w .now) (a .omega) (a .some .now) (v .whole) (v .inside .below) (a .tally .rng) _ _ _ _
     _ (at-coloring .coloring .result) (a .tally .directions) (a .tally .sweeps) (at-scales-into .scales-into .ensures) (v .rows)
     (at-coloring .coloring .ensures) (at-sigma-of .sigma-of .ensures) (at-double-or-zero .double-or-zero .ensures)
 

@@ -7,8 +7,8 @@ use Rattle.halving.proofs.halve_ranked.Tie as tie
 
 rank-into-requires : tie.Need-rank-into-requires
 rank-into-requires c κs =
-    let a = c .before .before .before .before .before .before .before .before .args in
-    let v = c .before .before .before .before .before .before .before .before .pre in
+    let a = c .before .before .before .before .before .before .before .before .before .args in
+    let v = c .before .before .before .before .before .before .before .before .before .pre in
     (v .3, support-below (a .w .now) (a .some .now) (v .2), v .0 .few, v .2)
 
 kept-count-requires : tie.Need-kept-count-requires
@@ -20,14 +20,14 @@ mul-halve-twice c = search needs
 sub-halve-twice : tie.Need-sub-halve-twice
 sub-halve-twice c =
     let at-rank-into = c .before .before .before .before in
-    let at-start = at-rank-into .before .before .before .before .before .before .before .before .before in
+    let at-start = at-rank-into .before .before .before .before .before .before .before .before .before .before in
     omega (arith, kept-within _ _ _ (at-rank-into .rank-into .ensures) (c .before .kept-count .ensures) (at-start .pre .1))
 
 part-halve-twice-start : tie.Need-part-halve-twice-start
 part-halve-twice-start c =
     let at-kept-count = c .before .before in
     let at-rank-into = at-kept-count .before .before .before in
-    let at-start = at-rank-into .before .before .before .before .before .before .before .before .before in
+    let at-start = at-rank-into .before .before .before .before .before .before .before .before .before .before in
     omega (arith, kept-within _ _ _ (at-rank-into .rank-into .ensures) (at-kept-count .kept-count .ensures) (at-start .pre .1))
 
 part-halve-twice-end : tie.Need-part-halve-twice-end
@@ -36,8 +36,9 @@ part-halve-twice-end c = search needs
 halve-twice-requires : tie.Need-halve-twice-requires
 halve-twice-requires c κs =
     let w = c .before .before .before .before .before .before .before .before .before .before .before .before .before .before
-    .before .before .before .args .w .now in
-    let v = c .before .before .before .before .before .before .before .before .before .before .before .before .before .before .before .before .before .pre in
+    .before .before .before .before .args .w .now in
+    let v = c .before .before .before .before .before .before .before .before .before .before .before
+    .before .before .before .before .before .before .before .pre in
     let e = c .before .before .before .before .before .before .before .before .rank-into .ensures in
     let k = c .before .before .before .before .before .kept-count .ensures in
     (v .0, rest-lent w _ _ e k, rest-lent-some w _ _ e k (v .1), v .4)

@@ -27,7 +27,7 @@ slice-aggregate-halve-ranked-2 c = sym (length-take-le _ _ (omega arith))
 halve-ranked-requires : tie.Need-halve-ranked-requires
 halve-ranked-requires c κs =
     let at-support-into = c .before .before .before .before .before .before in
-    let at-start = at-support-into .before .before .before .before .before .before .before in
+    let at-start = at-support-into .before .before .before .before .before .before .before .before in
     let p = at-support-into .support-into .ensures in
     (at-start .pre .0, at-start .pre .1, p .front, length-take-le _ _ (omega arith) ∙ sym (length-take-le _ _ (p .within)), at-start .pre .2)
 

@@ -1,11 +1,11 @@
 -- `margins::change_of` meets its contract: after a turn the largest is that of the rows up to the block's end.
 use lib.Seq.{length-take-le, length-front}
 use Rattle.ieee.specs.Magnitude.{maxAbsTo}
-use Rattle.limits.specs.Matrix.{columnsOf}
+use Rattle.limits.specs.Reading.{readOf}
 use Rattle.margins.specs.Margins.{changeTo, maxChange}
-use Rattle.margins.proofs.Stretches.{some-rows, max-block, front-back, front-long}
+use Rattle.margins.proofs.Stretches.{some-rows, on-a-byte, max-block, front-back, front-long}
 use borrow.Author.Needs.{needs}
-use Prim.Native.Nat.{ℕ, _+_, _-_, _≤_}
+use Prim.Native.Nat.{ℕ, _+_, _-_, _%_, _≤_, _<_}
 use mathlib.Core.Path.{_≡_, refl, sym, ap, _∙_}
 use native.Mathlib.Omega.{arith}
 use lib.Ieee.{Float}
@@ -14,15 +14,15 @@ use Rattle.margins.proofs.change_of.Statement.{statement}
 use Rattle.margins.proofs.change_of.Tie as tie
 
 abbrev Inv-loop : tie.InvT-loop
-Inv-loop matrix n before after block₀ most₀ from₀ block most from =
-    (from ≤ n) × (length block ≡ 64) × (most ≡ maxAbsTo (λ i. changeTo (columnsOf matrix n) before after i (length before)) from)
+Inv-loop matrix bits n before after block₀ most₀ from₀ block most from =
+    (from ≤ n) × (length block ≡ 64) × (from < n → from % 8 ≡ 0) × (most ≡ maxAbsTo (λ i. changeTo (readOf matrix bits n) before after i (length before)) from)
 
 abbrev μ-loop : tie.MeasureT-loop
-μ-loop matrix n before after block₀ most₀ from₀ block most from = n - from
+μ-loop matrix bits n before after block₀ most₀ from₀ block most from = n - from
 
 loop-holds : tie.Need-loop-holds Inv-loop μ-loop
 unfolding maxAbsTo
-loop-holds c = (omega arith, refl, refl)
+loop-holds c = (omega arith, refl, λ h. refl, refl)
 
 block-length-requires : tie.Need-block-length-requires Inv-loop μ-loop
 block-length-requires c κs = search needs
@@ -36,10 +36,11 @@ slice-aggregate-changes-into c = sym (length-take-le _ _ (omega arith))
 changes-into-requires : tie.Need-changes-into-requires Inv-loop μ-loop
 changes-into-requires c κs =
     let at-loop = c .before .before .before in
-    let at-start = at-loop .before .before .before .before in (
+    let at-start = at-loop .before .before .before .before .before in (
       at-start .pre,
       rw (length-take-le (c .before .block-length .result) (at-loop .loop .block) (omega arith))
           (c .before .block-length .ensures .0),
+      at-loop .loop .inv .2 (c .before .before .loop-test .taken),
     )
 
 array-share-prefix-block : tie.Need-array-share-prefix-block Inv-loop μ-loop
@@ -68,31 +69,32 @@ loop-less c =
     let at-block-length = c .before .before .before .before .before in
     let at-loop-test = at-block-length .before in
     let at-loop = at-loop-test .before in
-    let at-start = at-loop .before .before .before .before in
+    let at-start = at-loop .before .before .before .before .before in
     let k = at-block-length .block-length in
     omega (arith, some-rows (at-loop .loop .from) (k .result) (at-start .args .n) (at-loop-test .loop-test .taken) (k .ensures .2) (k .ensures .3))
 
 loop-again : tie.Need-loop-again Inv-loop μ-loop
 loop-again c =
-    let a = c .before .before .before .before .before .before .before .before .before .before .before .args in
+    let a = c .before .before .before .before .before .before .before .before .before .before .before .before .args in
     let l = c .before .before .before .before .before .before .before .loop in
     let k = c .before .before .before .before .before .block-length in
     let x = c .before .before .before .changes-into in
-    let v : ℕ → Float = λ i. changeTo (columnsOf (a .matrix .now) (a .n)) (a .before .now) (a .after .now) i (length (a .before .now)) in (
+    let v : ℕ → Float = λ i. changeTo (readOf (a .matrix .now) (a .bits .now) (a .n)) (a .before .now) (a .after .now) i (length (a .before .now)) in (
       omega arith,
       length-front (l .block) (x .last .0) (k .result) (x .kept .0) ∙ l .inv .1,
+      on-a-byte (l .from) (k .result) (a .n) (l .inv .2 (c .before .before .before .before .before .before .loop-test .taken)) (k .ensures .2) (k .ensures .3),
       c .largest-from .ensures
-          ∙ max-block v (l .from) (k .result) (l .most) _ (l .inv .2)
+          ∙ max-block v (l .from) (k .result) (l .most) _ (l .inv .3)
           (front-back (k .result) (l .block) (x .last .0) (λ i. v (l .from + i)) (omega arith) (x .ensures)),
     )
 
 returns : tie.Need-returns Inv-loop μ-loop
 unfolding maxChange
 returns c =
-    let a = c .before .before .before .before .before .args in
+    let a = c .before .before .before .before .before .before .args in
     let all : c .before .loop .from ≡ a .n = omega arith in
-    c .before .loop .inv .2
-    ∙ ap (maxAbsTo (λ i. changeTo (columnsOf (a .matrix .now) (a .n)) (a .before .now) (a .after .now) i (length (a .before .now)))) all
+    c .before .loop .inv .3
+    ∙ ap (maxAbsTo (λ i. changeTo (readOf (a .matrix .now) (a .bits .now) (a .n)) (a .before .now) (a .after .now) i (length (a .before .now)))) all
 
 pub change-of-spec : {M : Type 1} → statement M
 change-of-spec =

@@ -10,18 +10,21 @@ margin-fault-requires c κs = search needs
 returns : tie.Need-returns
 returns c = change-refused _ _ _ _ _ (c .before .margin-fault .result) (c .before .margin-fault .ensures) (c .if1 .taken)
 
+slice-aggregate-change-of : tie.Need-slice-aggregate-change-of
+slice-aggregate-change-of c = search needs
+
 change-of-requires : tie.Need-change-of-requires
 change-of-requires c κs =
-    let s = taken-sizes _ _ _ _ _ (c .before .margin-fault .result) (c .before .margin-fault .ensures) (c .if1 .left) in
-    s .0
+    let f = c .before .before .margin-fault in
+    taken-sizes _ _ _ _ _ (f .result) (f .ensures) (c .before .if1 .left) .0
 
 returns-2 : tie.Need-returns-2
 returns-2 c =
-    let a = c .before .before .before .before .before .before .args in
-    let f = c .before .before .margin-fault in
-    let s = taken-sizes (a .matrix .now) (a .m) (a .n) (a .before .now) (a .after .now) (f .result) (f .ensures) (c .before .if1 .left) in
-    change-taken _ _ _ _ _ (f .result) (f .ensures) (c .before .if1 .left) (c .change-of .result) (c .change-of .ensures) (s .1)
+    let a = c .before .before .before .before .before .before .before .args in
+    let f = c .before .before .before .margin-fault in
+    let s = taken-sizes (a .matrix .now) (a .m) (a .n) (a .before .now) (a .after .now) (f .result) (f .ensures) (c .before .before .if1 .left) in
+    change-taken _ _ _ _ _ (f .result) (f .ensures) (c .before .before .if1 .left) (c .change-of .result) (c .change-of .ensures) (s .1)
 
 pub max-margin-change-spec : {M : Type 1} → statement M
 max-margin-change-spec =
-    tie.close (tie.spec margin-fault-requires returns change-of-requires returns-2)
+    tie.close (tie.spec margin-fault-requires returns slice-aggregate-change-of change-of-requires returns-2)

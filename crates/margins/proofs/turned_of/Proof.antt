@@ -3,11 +3,11 @@ use native.Mathlib.Nat.{add-sub-cancel-left}
 use lib.Seq.{length-take-le, length-front}
 use Rattle.seq.specs.Keep.{count}
 use Rattle.seq.proofs.Parts.{length-part}
-use Rattle.limits.specs.Matrix.{columnsOf}
+use Rattle.limits.specs.Reading.{readOf}
 use Rattle.margins.specs.Margins.{marginAt, turnsAt, turnedCount}
-use Rattle.margins.proofs.Stretches.{some-rows, count-short, count-block, front-back, front-long}
+use Rattle.margins.proofs.Stretches.{some-rows, on-a-byte, count-short, count-block, front-back, front-long}
 use borrow.Author.Needs.{needs}
-use Prim.Native.Nat.{ℕ, _+_, _-_, _≤_}
+use Prim.Native.Nat.{ℕ, _+_, _-_, _%_, _≤_, _<_}
 use mathlib.Core.Path.{_≡_, refl, sym, ap, _∙_}
 use native.Mathlib.Omega.{arith}
 use lib.Ieee.{Float}
@@ -16,15 +16,16 @@ use Rattle.margins.proofs.turned_of.Statement.{statement}
 use Rattle.margins.proofs.turned_of.Tie as tie
 
 abbrev Inv-loop : tie.InvT-loop
-Inv-loop matrix n before after thresholds was₀ is₀ turned₀ from₀ was is turned from =
-    (from ≤ n) × (length was ≡ 64) × (length is ≡ 64) × (turned ≡ count (turnsAt (columnsOf matrix n) (length before) before after thresholds) from)
+Inv-loop matrix bits n before after thresholds was₀ is₀ turned₀ from₀ was is turned from =
+    (from ≤ n) × (length was ≡ 64) × (length is ≡ 64) × (from < n → from % 8 ≡ 0)
+    × (turned ≡ count (turnsAt (readOf matrix bits n) (length before) before after thresholds) from)
 
 abbrev μ-loop : tie.MeasureT-loop
-μ-loop matrix n before after thresholds was₀ is₀ turned₀ from₀ was is turned from = n - from
+μ-loop matrix bits n before after thresholds was₀ is₀ turned₀ from₀ was is turned from = n - from
 
 loop-holds : tie.Need-loop-holds Inv-loop μ-loop
 unfolding count
-loop-holds c = (omega arith, refl, refl, refl)
+loop-holds c = (omega arith, refl, refl, λ h. refl, refl)
 
 block-length-requires : tie.Need-block-length-requires Inv-loop μ-loop
 block-length-requires c κs = search needs
@@ -41,9 +42,12 @@ slice-aggregate-margins-into c = sym (length-take-le _ _ (omega arith))
 margins-into-requires : tie.Need-margins-into-requires Inv-loop μ-loop
 margins-into-requires c κs =
     let at-loop = c .before .before .before in
-    let at-start = at-loop .before .before .before .before .before in
-    let k = c .before .block-length in
-    (at-start .pre .0 .0, rw (length-take-le (k .result) (at-loop .loop .was) (omega arith)) (k .ensures .0))
+    let at-start = at-loop .before .before .before .before .before .before in
+    let k = c .before .block-length in (
+      at-start .pre .0 .0,
+      rw (length-take-le (k .result) (at-loop .loop .was) (omega arith)) (k .ensures .0),
+      at-loop .loop .inv .3 (c .before .before .loop-test .taken),
+    )
 
 array-borrow-prefix-is : tie.Need-array-borrow-prefix-is Inv-loop μ-loop
 array-borrow-prefix-is c = search needs
@@ -54,10 +58,11 @@ slice-aggregate-margins-into-2 c = sym (length-take-le _ _ (omega arith))
 margins-into-requires-2 : tie.Need-margins-into-requires-2 Inv-loop μ-loop
 margins-into-requires-2 c κs =
     let at-loop = c .before .before .before .before .before .before in
-    let at-start = at-loop .before .before .before .before .before in
+    let at-start = at-loop .before .before .before .before .before .before in
     let k = c .before .before .before .before .block-length in (
       rw (at-start .pre .0 .1) (at-start .pre .0 .0),
       rw (length-take-le (k .result) (at-loop .loop .is) (omega arith)) (k .ensures .0),
+      at-loop .loop .inv .3 (c .before .before .before .before .before .loop-test .taken),
     )
 
 array-share-prefix-was : tie.Need-array-share-prefix-was Inv-loop μ-loop
@@ -112,7 +117,7 @@ count-turned-requires c κs =
     let y = at-margins-into2 .margins-into2 in
     let k = at-margins-into .before .before .block-length in
     let at-loop = at-margins-into .before .before .before .before in
-    let at-start = at-loop .before .before .before .before .before in
+    let at-start = at-loop .before .before .before .before .before .before in
     let was = front-long (k .result) (at-loop .loop .was) (x .last .0) (omega arith) (x .kept .0) in
     let is = front-long (k .result) (at-loop .loop .is) (y .last .0) (omega arith) (y .kept .0) in
     let rows : at-loop .loop .from + k .result ≤ length (at-start .args .thresholds .now) = omega (arith, at-start .pre .1, k .ensures .0) in
@@ -126,14 +131,15 @@ add-turned c =
     let k = at-margins-into .before .before .block-length in
     let l = at-margins-into .before .before .before .before .loop in
     let long = front-long (k .result) (l .was) (x .last .0) (omega arith) (x .kept .0) in
-    omega (arith, long, count-short _ _ (l .turned) (l .inv .3), count-short _ _ (c .count-turned .result) (c .count-turned .ensures))
+    let n = at-margins-into .before .before .before .before .before .before .before .before .before .before .pre .0 .0 .short in
+    omega (arith, long, n, l .inv .0, count-short _ _ (l .turned) (l .inv .4), count-short _ _ (c .count-turned .result) (c .count-turned .ensures))
 
 loop-less : tie.Need-loop-less Inv-loop μ-loop
 loop-less c =
     let at-block-length = c .before .before .before .before .before .before .before .before .before .before in
     let at-loop-test = at-block-length .before in
     let at-loop = at-loop-test .before in
-    let at-start = at-loop .before .before .before .before .before in
+    let at-start = at-loop .before .before .before .before .before .before in
     let k = at-block-length .block-length in
     omega (
       arith,
@@ -146,18 +152,19 @@ loop-again c =
     let at-margins-into = at-margins-into2 .before .before .before in
     let at-block-length = at-margins-into .before .before in
     let at-loop = at-block-length .before .before in
-    let at-start = at-loop .before .before .before .before .before in
+    let at-start = at-loop .before .before .before .before .before .before in
     let a = at-start .args in
     let l = at-loop .loop in
     let k = at-block-length .block-length in
     let x = at-margins-into .margins-into in
     let y = at-margins-into2 .margins-into2 in
-    let v : ℕ → Float = marginAt (columnsOf (a .matrix .now) (a .n)) (length (a .before .now)) (a .before .now) in
-    let w : ℕ → Float = marginAt (columnsOf (a .matrix .now) (a .n)) (length (a .before .now)) (a .after .now) in (
+    let v : ℕ → Float = marginAt (readOf (a .matrix .now) (a .bits .now) (a .n)) (length (a .before .now)) (a .before .now) in
+    let w : ℕ → Float = marginAt (readOf (a .matrix .now) (a .bits .now) (a .n)) (length (a .before .now)) (a .after .now) in (
       omega arith,
       length-front (l .was) (x .last .0) (k .result) (x .kept .0) ∙ l .inv .1,
       length-front (l .is) (y .last .0) (k .result) (y .kept .0) ∙ l .inv .2,
-      rw (l .inv .3, c .count-turned .ensures, add-sub-cancel-left (l .from) (k .result))
+      on-a-byte (l .from) (k .result) (a .n) (l .inv .3 (at-block-length .before .loop-test .taken)) (k .ensures .2) (k .ensures .3),
+      rw (l .inv .4, c .count-turned .ensures, add-sub-cancel-left (l .from) (k .result))
           (count-block
           (a .thresholds .now)
           v
@@ -173,10 +180,10 @@ loop-again c =
 returns : tie.Need-returns Inv-loop μ-loop
 unfolding turnedCount
 returns c =
-    let a = c .before .before .before .before .before .before .args in
+    let a = c .before .before .before .before .before .before .before .args in
     let all : c .before .loop .from ≡ a .n = omega arith in
-    c .before .loop .inv .3
-    ∙ ap (count (turnsAt (columnsOf (a .matrix .now) (a .n)) (length (a .before .now)) (a .before .now) (a .after .now) (a .thresholds .now))) all
+    c .before .loop .inv .4
+    ∙ ap (count (turnsAt (readOf (a .matrix .now) (a .bits .now) (a .n)) (length (a .before .now)) (a .before .now) (a .after .now) (a .thresholds .now))) all
 
 pub turned-of-spec : {M : Type 1} → statement M
 turned-of-spec =

@@ -20,21 +20,24 @@ returns-2 c =
     let last = c .before .threshold-fault in
     turned-refused-last _ _ _ _ _ (first .result) (first .ensures) _ (c .before .before .if1 .left) (last .result) (last .ensures) (c .if2 .taken)
 
+slice-aggregate-turned-of : tie.Need-slice-aggregate-turned-of
+slice-aggregate-turned-of c = search needs
+
 turned-of-requires : tie.Need-turned-of-requires
 turned-of-requires c κs =
-    let first = c .before .before .before .margin-fault in
-    let last = c .before .threshold-fault in
-    let s = taken-sizes _ _ _ _ _ (first .result) (first .ensures) (c .before .before .if1 .left) in
-    (s .0, thresholds-fit _ _ (sym (last .ensures) ∙ c .if2 .left))
+    let first = c .before .before .before .before .margin-fault in
+    let last = c .before .before .threshold-fault in
+    let s = taken-sizes _ _ _ _ _ (first .result) (first .ensures) (c .before .before .before .if1 .left) in
+    (s .0, thresholds-fit _ _ (sym (last .ensures) ∙ c .before .if2 .left))
 
 returns-3 : tie.Need-returns-3
 returns-3 c =
-    let at-if1 = c .before .before .before in
+    let at-if1 = c .before .before .before .before in
     let first = at-if1 .before .margin-fault in
-    let last = c .before .before .threshold-fault in
+    let last = c .before .before .before .threshold-fault in
     let a = at-if1 .before .before .before .before .before .before .args in
     let s = taken-sizes (a .matrix .now) (a .m) (a .n) (a .before .now) (a .after .now) (first .result) (first .ensures) (at-if1 .if1 .left) in
-    turned-taken _ _ _ _ _ (first .result) (first .ensures) _ (at-if1 .if1 .left) (sym (last .ensures) ∙ c .before .if2 .left)
+    turned-taken _ _ _ _ _ (first .result) (first .ensures) _ (at-if1 .if1 .left) (sym (last .ensures) ∙ c .before .before .if2 .left)
     (c .turned-of .result) (c .turned-of .ensures) (s .1)
 
 pub turned-words-spec : {M : Type 1} → statement M
@@ -45,5 +48,6 @@ turned-words-spec =
     returns
     threshold-fault-requires
     returns-2
+    slice-aggregate-turned-of
     turned-of-requires
     returns-3)

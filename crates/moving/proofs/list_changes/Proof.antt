@@ -6,20 +6,26 @@ use Rattle.moving.proofs.Numbers.{changes-numbers}
 use Rattle.moving.proofs.Listing.{filled}
 use borrow.Author.Needs.{needs}
 use Prim.Native.Nat.{ℕ}
-use mathlib.Core.Path.{sym, _∙_}
+use mathlib.Core.Path.{refl, sym, _∙_}
 use mathlib.Core.List.{List}
+use native.Mathlib.Omega.{arith}
 use lib.Ieee.{Float}
 use lib.ListN.{length}
 use Rattle.moving.proofs.list_changes.Statement.{statement}
 use Rattle.moving.proofs.list_changes.Tie as tie
 
+slice-aggregate-changes-into : tie.Need-slice-aggregate-changes-into
+slice-aggregate-changes-into c = search needs
+
 changes-into-requires : tie.Need-changes-into-requires
-changes-into-requires c κs = search needs
+changes-into-requires c κs =
+    let p = c .before .before .before .before .before .before .before .before .before .before .pre in
+    ((p .0 .lent, p .0 .second), omega (arith, p .3), refl)
 
 list-moved-requires : tie.Need-list-moved-requires
 list-moved-requires c κs =
     let at-changes-into = c .before .before .before .before .before .before .before in
-    let at-shared-slice-known3 = at-changes-into .before .before .before .before .before .before .before in
+    let at-shared-slice-known3 = at-changes-into .before .before .before .before .before .before .before .before in
     let at-shared-slice-known2 = at-shared-slice-known3 .before in
     let at-shared-slice-known = at-shared-slice-known2 .before in
     let at-start = at-shared-slice-known .before in
@@ -55,7 +61,7 @@ returns : tie.Need-returns
 returns c =
     let at-list-moved = c .before .before .before .before .before .before .before .before in
     let at-changes-into = at-list-moved .before .before .before .before .before .before .before .before in
-    let at-start = at-changes-into .before .before .before .before .before .before .before .before .before .before in
+    let at-start = at-changes-into .before .before .before .before .before .before .before .before .before .before .before in
     let a = at-start .args in
     let b = a .before .now in
     let e = filled (columnsOf (a .matrix .now) (a .n)) (length b) (a .n) b (a .after .now) _ _ (at-changes-into .changes-into .ensures) (at-start .pre .3) in
@@ -65,6 +71,7 @@ pub list-changes-spec : {M : Type 1} → statement M
 list-changes-spec =
     tie.close
     (tie.spec
+    slice-aggregate-changes-into
     changes-into-requires
     list-moved-requires
     same-length

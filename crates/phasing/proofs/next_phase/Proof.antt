@@ -13,7 +13,7 @@ use Rattle.phasing.proofs.next_phase.Tie as tie
 
 free-places-requires : tie.Need-free-places-requires
 free-places-requires c κs =
-    let p = c .before .before .before .before .before .before .before .before .before .before .before .before .before .before .before .pre in
+    let p = c .before .before .before .before .before .before .before .before .before .before .before .before .before .before .before .before .pre in
     (omega (arith, p .0 .1 .marks, p .1 .0), omega (arith, p .0 .1 .marks, p .0 .0 .few))
 
 slice-reshare-prefix-phase-on : tie.Need-slice-reshare-prefix-phase-on
@@ -25,77 +25,77 @@ slice-aggregate-phase-on c = sym (length-take-le _ _ (c .before .before .before 
 slice-relend-prefix-phase-on : tie.Need-slice-relend-prefix-phase-on
 slice-relend-prefix-phase-on c =
     let f = c .before .before .before .before .before .before .before in
-    let start = f .before .before .before .before .before .before .before .before .before .before .before .before .before .before .before .before in
+    let start = f .before .before .before .before .before .before .before .before .before .before .before .before .before .before .before .before .before in
     let few = places-few (start .args .free .now) _ _ (f .free-places .result) (start .pre .0 .1 .marks) (f .free-places .ensures) in
     omega (arith, few, start .pre .1 .1)
 
 slice-aggregate-phase-on-2 : tie.Need-slice-aggregate-phase-on-2
 slice-aggregate-phase-on-2 c =
     let f = c .before .before .before .before .before .before .before .before in
-    let start = f .before .before .before .before .before .before .before .before .before .before .before .before .before .before .before .before in
+    let start = f .before .before .before .before .before .before .before .before .before .before .before .before .before .before .before .before .before in
     let few = places-few (start .args .free .now) _ _ (f .free-places .result) (start .pre .0 .1 .marks) (f .free-places .ensures) in
     sym (length-take-le _ _ (omega (arith, few, start .pre .1 .1)))
 
 slice-relend-prefix-phase-on-2 : tie.Need-slice-relend-prefix-phase-on-2
 slice-relend-prefix-phase-on-2 c =
     let f = c .before .before .before .before .before .before .before .before in
-    let start = f .before .before .before .before .before .before .before .before .before .before .before .before .before .before .before .before in
+    let start = f .before .before .before .before .before .before .before .before .before .before .before .before .before .before .before .before .before in
     let few = places-few (start .args .free .now) _ _ (f .free-places .result) (start .pre .0 .1 .marks) (f .free-places .ensures) in
     omega (arith, few, start .pre .1 .2)
 
 slice-aggregate-phase-on-3 : tie.Need-slice-aggregate-phase-on-3
 slice-aggregate-phase-on-3 c =
     let f = c .before .before .before .before .before .before .before .before .before in
-    let start = f .before .before .before .before .before .before .before .before .before .before .before .before .before .before .before .before in
+    let start = f .before .before .before .before .before .before .before .before .before .before .before .before .before .before .before .before .before in
     let few = places-few (start .args .free .now) _ _ (f .free-places .result) (start .pre .0 .1 .marks) (f .free-places .ensures) in
     sym (length-take-le _ _ (omega (arith, few, start .pre .1 .2)))
 
 slice-relend-prefix-phase-on-3 : tie.Need-slice-relend-prefix-phase-on-3
 slice-relend-prefix-phase-on-3 c =
     let f = c .before .before .before .before .before .before .before .before .before in
-    let start = f .before .before .before .before .before .before .before .before .before .before .before .before .before .before .before .before in
+    let start = f .before .before .before .before .before .before .before .before .before .before .before .before .before .before .before .before .before in
     let few = places-few (start .args .free .now) _ _ (f .free-places .result) (start .pre .0 .1 .marks) (f .free-places .ensures) in
     omega (arith, few, start .pre .1 .3)
 
 slice-aggregate-phase-on-4 : tie.Need-slice-aggregate-phase-on-4
 slice-aggregate-phase-on-4 c =
     let f = c .before .before .before .before .before .before .before .before .before .before in
-    let start = f .before .before .before .before .before .before .before .before .before .before .before .before .before .before .before .before in
+    let start = f .before .before .before .before .before .before .before .before .before .before .before .before .before .before .before .before .before in
     let few = places-few (start .args .free .now) _ _ (f .free-places .result) (start .pre .0 .1 .marks) (f .free-places .ensures) in
     sym (length-take-le _ _ (omega (arith, few, start .pre .1 .3)))
 
 slice-relend-prefix-phase-on-4 : tie.Need-slice-relend-prefix-phase-on-4
 slice-relend-prefix-phase-on-4 c =
     let f = c .before .before .before .before .before .before .before .before .before .before in
-    let start = f .before .before .before .before .before .before .before .before .before .before .before .before .before .before .before .before in
+    let start = f .before .before .before .before .before .before .before .before .before .before .before .before .before .before .before .before .before in
     let few = places-few (start .args .free .now) _ _ (f .free-places .result) (start .pre .0 .1 .marks) (f .free-places .ensures) in
     omega (arith, few, start .pre .1 .4)
 
 slice-aggregate-phase-on-5 : tie.Need-slice-aggregate-phase-on-5
 slice-aggregate-phase-on-5 c =
     let f = c .before .before .before .before .before .before .before .before .before .before .before in
-    let start = f .before .before .before .before .before .before .before .before .before .before .before .before .before .before .before .before in
+    let start = f .before .before .before .before .before .before .before .before .before .before .before .before .before .before .before .before .before in
     let few = places-few (start .args .free .now) _ _ (f .free-places .result) (start .pre .0 .1 .marks) (f .free-places .ensures) in
     sym (length-take-le _ _ (omega (arith, few, start .pre .1 .4)))
 
 slice-relend-prefix-phase-on-5 : tie.Need-slice-relend-prefix-phase-on-5
 slice-relend-prefix-phase-on-5 c =
     let f = c .before .before .before .before .before .before .before .before .before .before .before in
-    let start = f .before .before .before .before .before .before .before .before .before .before .before .before .before .before .before .before in
+    let start = f .before .before .before .before .before .before .before .before .before .before .before .before .before .before .before .before .before in
     let few = places-few (start .args .free .now) _ _ (f .free-places .result) (start .pre .0 .1 .marks) (f .free-places .ensures) in
     omega (arith, few, start .pre .1 .5)
 
 slice-aggregate-phase-on-6 : tie.Need-slice-aggregate-phase-on-6
 slice-aggregate-phase-on-6 c =
     let f = c .before .before .before .before .before .before .before .before .before .before .before .before in
-    let start = f .before .before .before .before .before .before .before .before .before .before .before .before .before .before .before .before in
+    let start = f .before .before .before .before .before .before .before .before .before .before .before .before .before .before .before .before .before in
     let few = places-few (start .args .free .now) _ _ (f .free-places .result) (start .pre .0 .1 .marks) (f .free-places .ensures) in
     sym (length-take-le _ _ (omega (arith, few, start .pre .1 .5)))
 
 phase-on-requires : tie.Need-phase-on-requires
 phase-on-requires c κs =
     let f = c .before .before .before .before .before .before .before .before .before .before .before .before in
-    let start = f .before .before .before .before .before .before .before .before .before .before .before .before .before .before .before .before in
+    let start = f .before .before .before .before .before .before .before .before .before .before .before .before .before .before .before .before .before in
     let few = places-few (start .args .free .now) _ _ (f .free-places .result) (start .pre .0 .1 .marks) (f .free-places .ensures) in
     let within = f .free-places .ensures .within in
     let long = sym (length-take-le _ _ within) in
@@ -117,7 +117,7 @@ round-free-requires c κs =
     .before .before .before .before .before .before .before .before .before in
     let start = at-phase-on .before .before .before .before .before .before .before .before .before .before .before .before
     .before .before .before .before .before .before .before .before .before .before .before .before .before .before .before
-    .before .before in
+    .before .before .before in
     at-phase-on .phase-on .kept .1 .1 .1 .0 ∙ start .pre .0 .1 .marks ∙ sym (at-phase-on .phase-on .kept .1 .1 .0 ∙ start .pre .0 .1 .wide)
 
 fill-words-requires : tie.Need-fill-words-requires
@@ -130,10 +130,18 @@ same-length-2 : tie.Need-same-length-2
 same-length-2 c = search needs
 
 same-length-3 : tie.Need-same-length-3
-same-length-3 c = search needs
+same-length-3 c =
+    let at-round-free = c .before .before .before .before .before .before in
+    let at-phase-on = at-round-free .before .before .before .before .before .before .before .before .before .before .before .before
+    .before .before .before .before .before .before .before .before .before .before .before in
+    at-round-free .round-free .kept .0 ∙ at-phase-on .phase-on .kept .1 .1 .0
 
 same-length-4 : tie.Need-same-length-4
-same-length-4 c = search needs
+same-length-4 c =
+    let at-round-free = c .before .before .before .before .before .before in
+    let at-phase-on = at-round-free .before .before .before .before .before .before .before .before .before .before .before .before
+    .before .before .before .before .before .before .before .before .before .before .before in
+    c .before .before .fill-words .kept .0 ∙ at-phase-on .phase-on .kept .1 .1 .1 .0
 
 same-length-5 : tie.Need-same-length-5
 same-length-5 c =
@@ -165,9 +173,9 @@ returns c = λ d.
     .before .before .before .before .before .before .before .before in
     let at-free-places = at-phase-on .before .before .before .before .before .before .before .before .before .before .before .before .before in
     let start = at-free-places .before .before .before .before .before .before .before .before .before .before .before .before
-    .before .before .before .before in
+    .before .before .before .before .before in
     let a = start .args in
-    phase-rounds (entryOf (a .matrix .now) (a .n) (a .cols .now) (a .scale .now)) (length (a .cols .now)) (length (a .blocked .now))
+    phase-rounds (entryOf (a .matrix .now) (a .bits .now) (a .n) (a .cols .now) (a .scale .now)) (length (a .cols .now)) (length (a .blocked .now))
     (a .rng) (a .numbers .now) (a .x .now) (a .free .now) _ _ _ _ _
     (at-free-places .free-places .ensures .front ∙ ap (keep (isSet (a .free .now))) (start .pre .0 .1 .marks))
     (at-phase-on .phase-on .ensures) d _ _ (at-if1 .if1 .taken) (at-round-free .round-free .ensures)
@@ -213,9 +221,9 @@ returns-2 c = λ d.
     .before .before .before .before .before .before .before in
     let at-free-places = at-phase-on .before .before .before .before .before .before .before .before .before .before .before .before .before in
     let start = at-free-places .before .before .before .before .before .before .before .before .before .before .before .before
-    .before .before .before .before in
+    .before .before .before .before .before in
     let a = start .args in
-    phase-goes (entryOf (a .matrix .now) (a .n) (a .cols .now) (a .scale .now)) (length (a .cols .now)) (length (a .blocked .now))
+    phase-goes (entryOf (a .matrix .now) (a .bits .now) (a .n) (a .cols .now) (a .scale .now)) (length (a .cols .now)) (length (a .blocked .now))
     (a .rng) (a .numbers .now) (a .x .now) (a .free .now) _ _ _ _ _
     (at-free-places .free-places .ensures .front ∙ ap (keep (isSet (a .free .now))) (start .pre .0 .1 .marks))
     (at-phase-on .phase-on .ensures) d (c .if1 .left)

@@ -13,12 +13,12 @@ use Rattle.search.proofs.local_search.Statement.{statement}
 use Rattle.search.proofs.local_search.Tie as tie
 
 abbrev Inv-loop : tie.InvT-loop
-Inv-loop ax₀ x₀ matrix n cols scale best₀ k₀ ax x best k =
+Inv-loop ax₀ x₀ matrix bits n cols scale best₀ k₀ ax x best k =
     (k ≤ 100) × (length ax ≡ length ax₀) × (length x ≡ length x₀)
-    × (searched (entryOf matrix n cols scale) (length cols) x₀ ax₀ ≡ remaining (entryOf matrix n cols scale) (length cols) k x ax best)
+    × (searched (entryOf matrix bits n cols scale) (length cols) x₀ ax₀ ≡ remaining (entryOf matrix bits n cols scale) (length cols) k x ax best)
 
 abbrev μ-loop : tie.MeasureT-loop
-μ-loop ax₀ x₀ matrix n cols scale best₀ k₀ ax x best k = 100 - k
+μ-loop ax₀ x₀ matrix bits n cols scale best₀ k₀ ax x best k = 100 - k
 
 max-abs-requires : tie.Need-max-abs-requires Inv-loop μ-loop
 max-abs-requires c κs = search needs
@@ -28,7 +28,7 @@ loop-holds c = (omega arith, refl, refl, search-begun _ _ _ _ _ (c .max-abs .ens
 
 sweep-requires : tie.Need-sweep-requires Inv-loop μ-loop
 sweep-requires c κs =
-    let start = c .before .before .before .before .before .before .before .before .before .before .before in
+    let start = c .before .before .before .before .before .before .before .before .before .before .before .before in
     (rw (c .before .before .before .loop .inv .1) (start .pre .0), c .before .before .before .loop .inv .2 ∙ start .pre .1)
 
 add-swept : tie.Need-add-swept Inv-loop μ-loop
@@ -45,10 +45,10 @@ returns c =
     let at-sweep = c .before .before .before .before .before .before in
     let at-loop-test = at-sweep .before .before .before in
     let at-loop = at-loop-test .before in
-    let at-start = at-loop .before .before .before .before .before .before .before .before in
+    let at-start = at-loop .before .before .before .before .before .before .before .before .before in
     let a = at-start .args in
     let l = at-loop .loop in
-    sym (l .inv .3 ∙ search-stop (entryOf (a .matrix .now) (a .n) (a .cols .now) (a .scale .now)) (length (a .cols .now)) (l .k) (l .x)
+    sym (l .inv .3 ∙ search-stop (entryOf (a .matrix .now) (a .bits .now) (a .n) (a .cols .now) (a .scale .now)) (length (a .cols .now)) (l .k) (l .x)
     (l .ax) (l .best) _ (at-loop-test .loop-test .taken) (at-sweep .sweep .ensures) (not-true _ (c .if1 .taken)))
 
 loop-less : tie.Need-loop-less Inv-loop μ-loop
@@ -59,13 +59,13 @@ loop-again c =
     let at-sweep = c .before .before .before .before .before .before in
     let at-loop-test = at-sweep .before .before .before in
     let at-loop = at-loop-test .before in
-    let at-start = at-loop .before .before .before .before .before .before .before .before in
+    let at-start = at-loop .before .before .before .before .before .before .before .before .before in
     let a = at-start .args in
     let l = at-loop .loop in (
       omega arith,
       at-sweep .sweep .kept .0 ∙ l .inv .1,
       at-sweep .sweep .kept .1 .0 ∙ l .inv .2,
-      l .inv .3 ∙ search-turn (entryOf (a .matrix .now) (a .n) (a .cols .now) (a .scale .now)) (length (a .cols .now)) (l .k) (l .x)
+      l .inv .3 ∙ search-turn (entryOf (a .matrix .now) (a .bits .now) (a .n) (a .cols .now) (a .scale .now)) (length (a .cols .now)) (l .k) (l .x)
           (l .ax) (l .best) _ (at-loop-test .loop-test .taken) (at-sweep .sweep .ensures) (not-false _ (c .if1 .left)),
     )
 
@@ -77,9 +77,9 @@ same-length-4 c = search needs
 
 returns-2 : tie.Need-returns-2 Inv-loop μ-loop
 returns-2 c =
-    let a = c .before .before .before .before .before .before .before .before .before .args in
+    let a = c .before .before .before .before .before .before .before .before .before .before .args in
     let l = c .before .loop in
-    sym (l .inv .3 ∙ search-over (entryOf (a .matrix .now) (a .n) (a .cols .now) (a .scale .now)) (length (a .cols .now)) (l .k) (l .x)
+    sym (l .inv .3 ∙ search-over (entryOf (a .matrix .now) (a .bits .now) (a .n) (a .cols .now) (a .scale .now)) (length (a .cols .now)) (l .k) (l .x)
     (l .ax) (l .best) (omega arith))
 
 pub local-search-spec : {M : Type 1} → statement M

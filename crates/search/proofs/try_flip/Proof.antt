@@ -1,5 +1,4 @@
 -- `search::try_flip` meets its contract: the two ways out are the two ways of a trial.
-use native.Mathlib.Nat.{add-sub-cancel-left}
 use Rattle.search.proofs.Flips.{left-alone, turned-over}
 use Rattle.entries.specs.Entries.{entryOf}
 use borrow.Author.Needs.{needs}
@@ -7,24 +6,14 @@ use native.Mathlib.Omega.{arith}
 use Rattle.search.proofs.try_flip.Statement.{statement}
 use Rattle.search.proofs.try_flip.Tie as tie
 
-mul-a : tie.Need-mul-a
-mul-a c = search needs
+mul-c : tie.Need-mul-c
+mul-c c = search needs
 
-shared-slice-read-a : tie.Need-shared-slice-read-a
-shared-slice-read-a c = search needs
+shared-slice-read-c : tie.Need-shared-slice-read-c
+shared-slice-read-c c = search needs
 
-cast-a : tie.Need-cast-a
-cast-a c = omega (arith, c .shared-slice-known4 .given (c .before .before .before .before .before .before .args .j))
-
-mul-a-2 : tie.Need-mul-a-2
-mul-a-2 c =
-    let start = c .before .before .before .before .before .before in
-    omega (arith, start .pre .0 .inside (start .args .j) (start .pre .2))
-
-add-e : tie.Need-add-e
-add-e c =
-    let start = c .before .before .before .before .before .before in
-    omega (arith, start .pre .0 .inside (start .args .j) (start .pre .2))
+cast-c : tie.Need-cast-c
+cast-c c = omega (arith, c .shared-slice-known5 .given (c .before .before .before .before .before .before .before .args .j))
 
 mul-s : tie.Need-mul-s
 mul-s c = search needs
@@ -38,43 +27,17 @@ mul-t c = search needs
 slice-read-t : tie.Need-slice-read-t
 slice-read-t c = search needs
 
-mul-stays-below : tie.Need-mul-stays-below
-mul-stays-below c =
-    let start = c .before .before .before .before .before .before .before .before .before in
-    omega (arith, start .pre .0 .inside (start .args .j) (start .pre .2))
+stays-below-of-requires : tie.Need-stays-below-of-requires
+stays-below-of-requires c κs =
+    let start = c .before .before .before .before .before .before .before .before .before .before .before in
+    let p = start .pre in
+    (p .0 .inside (start .args .j) (p .2), p .0 .low, p .0 .high)
 
-sub-stays-below : tie.Need-sub-stays-below
-sub-stays-below c = search needs
-
-part-stays-below-start : tie.Need-part-stays-below-start
-part-stays-below-start c = search needs
-
-part-stays-below-end : tie.Need-part-stays-below-end
-part-stays-below-end c =
-    let start = c .before .before .before .before .before .before .before .before .before in
-    omega (arith, start .pre .0 .inside (start .args .j) (start .pre .2))
-
-stays-below-requires : tie.Need-stays-below-requires
-stays-below-requires c κs = search needs
-
-mul-less-column : tie.Need-mul-less-column
-mul-less-column c =
+less-column-of-requires : tie.Need-less-column-of-requires
+less-column-of-requires c κs =
     let start = c .before .before .before .before .before .before .before .before .before .before .before .before .before .before in
-    omega (arith, start .pre .0 .inside (start .args .j) (start .pre .2))
-
-sub-less-column : tie.Need-sub-less-column
-sub-less-column c = search needs
-
-part-less-column-start : tie.Need-part-less-column-start
-part-less-column-start c = search needs
-
-part-less-column-end : tie.Need-part-less-column-end
-part-less-column-end c =
-    let start = c .before .before .before .before .before .before .before .before .before .before .before .before .before .before in
-    omega (arith, start .pre .0 .inside (start .args .j) (start .pre .2))
-
-less-column-requires : tie.Need-less-column-requires
-less-column-requires c κs = search needs
+    let p = start .pre in
+    (p .0 .inside (start .args .j) (p .2), p .0 .low, p .0 .high)
 
 mul-x : tie.Need-mul-x
 mul-x c = search needs
@@ -99,15 +62,13 @@ same-length-2 c = search needs
 
 returns : tie.Need-returns
 returns c =
-    let at-less-column = c .before .before .before .before .before in
-    let at-if1 = at-less-column .before .before .before in
-    let at-stays-below = at-if1 .before in
-    let at-start = at-stays-below .before .before .before .before .before .before .before .before .before .before .before .before in
-    let a = at-start .args in
-    turned-over (entryOf (a .matrix .now) (a .n) (a .cols .now) (a .scale .now) (a .j)) (a .j) (a .x .now) (a .ax .now) (a .from)
-    (at-stays-below .stays-below .result)
-    (simp add-sub-cancel-left at (at-stays-below .stays-below .ensures)) (at-less-column .less-column .last .0) (c .max-abs .result) (at-if1 .if1 .taken)
-    (simp add-sub-cancel-left at (at-less-column .less-column .ensures)) (c .max-abs .ensures)
+    let at-less = c .before .before .before .before .before in
+    let at-if1 = at-less .before .before in
+    let at-stays = at-if1 .before in
+    let a = at-stays .before .before .before .before .before .before .before .before .before .before .before .before .args in
+    turned-over (entryOf (a .matrix .now) (a .bits .now) (a .n) (a .cols .now) (a .scale .now) (a .j)) (a .j) (a .x .now) (a .ax .now) (a .from)
+    (at-stays .stays-below-of .result) (at-stays .stays-below-of .ensures) (at-less .less-column-of .last .0) (c .max-abs .result) (at-if1 .if1 .taken)
+    (at-less .less-column-of .ensures) (c .max-abs .ensures)
 
 same-length-3 : tie.Need-same-length-3
 same-length-3 c = search needs
@@ -115,33 +76,22 @@ same-length-3 c = search needs
 returns-2 : tie.Need-returns-2
 returns-2 c =
     let a = c .before .before .before .before .before .before .before .before .before .before .before .before .before .args in
-    left-alone (entryOf (a .matrix .now) (a .n) (a .cols .now) (a .scale .now) (a .j)) (a .j) (a .x .now) (a .ax .now) (a .from)
-    (c .before .stays-below .result)
-    (simp add-sub-cancel-left at (c .before .stays-below .ensures)) (c .if1 .left)
+    left-alone (entryOf (a .matrix .now) (a .bits .now) (a .n) (a .cols .now) (a .scale .now) (a .j)) (a .j) (a .x .now) (a .ax .now) (a .from)
+    (c .before .stays-below-of .result) (c .before .stays-below-of .ensures) (c .if1 .left)
 
 pub try-flip-spec : {M : Type 1} → statement M
 try-flip-spec =
     tie.close
     (tie.spec
-    mul-a
-    shared-slice-read-a
-    cast-a
-    mul-a-2
-    add-e
+    mul-c
+    shared-slice-read-c
+    cast-c
     mul-s
     shared-slice-read-s
     mul-t
     slice-read-t
-    mul-stays-below
-    sub-stays-below
-    part-stays-below-start
-    part-stays-below-end
-    stays-below-requires
-    mul-less-column
-    sub-less-column
-    part-less-column-start
-    part-less-column-end
-    less-column-requires
+    stays-below-of-requires
+    less-column-of-requires
     mul-x
     slice-read-x
     mul-x-2

@@ -26,18 +26,22 @@ returns c =
     (a .output .now) (a .numbers .now) (a .indices .now)
     (at-fault .job-fault .result) (c .refused .result) (at-fault .job-fault .ensures) (at-test .if1 .taken) (c .refused .ensures)
 
+slice-aggregate-thin-sound : tie.Need-slice-aggregate-thin-sound
+slice-aggregate-thin-sound c = search needs
+
 array-borrow-prefix-start : tie.Need-array-borrow-prefix-start
 array-borrow-prefix-start c =
-    let at-fault = c .before in
+    let at-test = c .before in
+    let at-fault = at-test .before in
     let at-start = at-fault .before .before .before .before .before .before in
     let a = at-start .args in
     let s = accepted (a .job .rule) (a .job .edition) (a .matrix .now) (a .m) (a .n) (a .weights .now) (length (a .output .now)) (length (a .numbers .now))
-    (length (a .indices .now)) (sym (at-fault .job-fault .ensures) ∙ c .if1 .left) in
+    (length (a .indices .now)) (sym (at-fault .job-fault .ensures) ∙ at-test .if1 .left) in
     omega (arith, s .sized .few)
 
-slice-aggregate-thin-sound : tie.Need-slice-aggregate-thin-sound
-slice-aggregate-thin-sound c =
-    let at-test = c .before in
+slice-aggregate-thin-sound-2 : tie.Need-slice-aggregate-thin-sound-2
+slice-aggregate-thin-sound-2 c =
+    let at-test = c .before .before in
     let at-fault = at-test .before in
     let at-start = at-fault .before .before .before .before .before .before in
     let a = at-start .args in
@@ -50,7 +54,7 @@ new-requires c κs = search needs
 
 thin-sound-requires : tie.Need-thin-sound-requires
 thin-sound-requires c κs =
-    let at-test = c .before .before .before .before .before in
+    let at-test = c .before .before .before .before .before .before in
     let at-fault = at-test .before in
     let at-start = at-fault .before .before .before .before .before .before in
     let a = at-start .args in
@@ -77,7 +81,7 @@ returns-2 : tie.Need-returns-2
 returns-2 c =
     let at-thin = c .before .before .before .before .before .before .before in
     let at-new = at-thin .before .before .before .before in
-    let at-test = at-new .before .before in
+    let at-test = at-new .before .before .before in
     let at-fault = at-test .before in
     let at-start = at-fault .before .before .before .before .before .before in
     let a = at-start .args in
@@ -92,8 +96,9 @@ thin-spec =
     job-fault-requires
     refused-requires
     returns
-    array-borrow-prefix-start
     slice-aggregate-thin-sound
+    array-borrow-prefix-start
+    slice-aggregate-thin-sound-2
     new-requires
     thin-sound-requires
     same-length

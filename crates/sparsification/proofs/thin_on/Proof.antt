@@ -5,7 +5,7 @@ use native.Mathlib.Omega.{arith}
 use lib.ListN.{length}
 use Rattle.seq.specs.Lists.{repeated}
 use Rattle.seq.specs.Sums.{plusZero}
-use Rattle.limits.specs.Matrix.{columnsOf}
+use Rattle.limits.specs.Reading.{readOf}
 use Rattle.halve.proofs.Calls.{ready-still}
 use Rattle.sparsification.proofs.Finishing.{done-from}
 use Rattle.sparsification.proofs.thin_on.Statement.{statement}
@@ -17,7 +17,7 @@ copy-requires c κs = search needs
 follow-requires : tie.Need-follow-requires
 follow-requires c κs =
     let at-copy = c .before .before .before .before .before .before in
-    let at-start = at-copy .before .before .before .before .before .before .before .before in
+    let at-start = at-copy .before .before .before .before .before .before .before .before .before in
     let given = at-start .pre in
     let copied = at-copy .copy .ensures in (
       ready-still (given .0) (ap length copied) refl refl,
@@ -57,13 +57,13 @@ returns c =
     let at-numbers = at-words .before .before .before .before in
     let at-follow = at-numbers .before .before .before .before .before .before .before .before .before .before in
     let at-copy = at-follow .before .before .before .before .before .before .before in
-    let at-start = at-copy .before .before .before .before .before .before .before .before in
+    let at-start = at-copy .before .before .before .before .before .before .before .before .before in
     let a = at-start .args in
     let k = at-follow .follow .kept in
-    done-from (columnsOf (a .matrix .now) (a .n)) (a .n) (a .start .now) (a .source) (a .rule) (at-copy .copy .ensures) (at-follow .follow .ensures)
+    done-from (readOf (a .matrix .now) (a .bits .now) (a .n)) (a .n) (a .start .now) (a .source) (a .rule) (at-copy .copy .ensures) (at-follow .follow .ensures)
     (a .numbers .now) _ (a .indices .now) _ (c .answer-for .result) (c .answer-for .ensures)
-    (at-numbers .clear .ensures ∙ ap (repeated plusZero) (k .1 .1 .1 .1 .1 .0))
-    (at-words .clear-words .ensures ∙ ap (repeated 0) (k .1 .1 .1 .1 .1 .1 .0))
+    (at-numbers .clear .ensures ∙ ap (repeated plusZero) (k .1 .1 .1 .1 .1 .1 .0))
+    (at-words .clear-words .ensures ∙ ap (repeated 0) (k .1 .1 .1 .1 .1 .1 .1 .0))
 
 pub thin-on-spec : {M : Type 1} → statement M
 thin-on-spec =

@@ -25,7 +25,7 @@ array-borrow-prefix-next c = search needs
 
 slice-aggregate-thin-on : tie.Need-slice-aggregate-thin-on
 slice-aggregate-thin-on c =
-    let at-start = c .before .before .before .before .before .before .before .before .before .before .before .before .before .before .before .before in
+    let at-start = c .before .before .before .before .before .before .before .before .before .before .before .before .before .before .before .before .before in
     sym (length-take-le _ _ (omega (arith, at-start .pre .0 .few)))
 
 thin-on-requires : tie.Need-thin-on-requires
@@ -33,14 +33,14 @@ thin-on-requires c κs =
     let at-normalize = c .before .before .before .before .before .before .before in
     let at-copy = at-normalize .before .before .before .before in
     let at-known = at-copy .before .before .before .before .before .before in
-    let at-start = at-known .before .before in
+    let at-start = at-known .before .before .before in
     let given = at-start .pre in
     let w = at-start .args .weights .now in
     let normal = at-normalize .normalize .ensures ∙ ap (normalized plusZero) (at-copy .copy .ensures) in
     let long = ap length normal ∙ length-normalized plusZero w in
     let v = values-good (at-start .args .matrix .now) w (given .1) in (
       ready-still (given .0) long refl refl,
-      rw normal (start-bounded (normalized plusZero w) _ (normal-start w (λ j. at-known .shared-slice-known2 .given j) (v .ends) (v .total)) refl),
+      rw normal (start-bounded (normalized plusZero w) _ (normal-start w (λ j. at-known .shared-slice-known3 .given j) (v .ends) (v .total)) refl),
       length-take-le _ _ (omega (arith, given .0 .few)) ∙ sym long,
       given .3 ∙ sym long,
       given .4,

@@ -10,7 +10,7 @@ enum-known-rule c = search needs
 to-target-requires : tie.Need-to-target-requires
 to-target-requires c κs =
     let at-rule = c .before .before .before .before in
-    let at-start = at-rule .before .before .before .before .before .before .before .before in
+    let at-start = at-rule .before .before .before .before .before .before .before .before .before in
     (at-start .pre .0, at-start .pre .1, at-start .pre .2, target-some _ (rw (at-rule .rule .given .1) at (at-start .pre .4)))
 
 enum-known-rule-2 : tie.Need-enum-known-rule-2
@@ -19,7 +19,7 @@ enum-known-rule-2 c = search needs
 to-allowance-requires : tie.Need-to-allowance-requires
 to-allowance-requires c κs =
     let at-rule = c .before .before .before .before .before in
-    let at-start = at-rule .before .before .before .before .before .before .before .before in
+    let at-start = at-rule .before .before .before .before .before .before .before .before .before in
     let given = at-start .pre in
     (given .0, given .1, given .2, given .3, rw (at-rule .rule2 .given .1) at (given .4))
 

@@ -12,7 +12,7 @@ use Rattle.seq.specs.Lists.{tabulate}
 use Rattle.seq.specs.Sums.{plusZero}
 use Rattle.ieee.specs.Constants.{one}
 use Rattle.limits.specs.Limits.{bounded}
-use Rattle.limits.specs.Matrix.{columnsOf}
+use Rattle.limits.specs.Reading.{readOf}
 use Rattle.margins.specs.Margins.{maxChange}
 use Rattle.weights.specs.Weights.{nonzeros}
 use Rattle.halve.proofs.Calls.{ready-still}
@@ -27,14 +27,16 @@ use Rattle.stages.proofs.to_allowance.Statement.{statement}
 use Rattle.stages.proofs.to_allowance.Tie as tie
 
 abbrev Inv-loop : tie.InvT-loop
-Inv-loop matrix n start w₀ next₀ numbers₀ indices₀ allowance cap tally₀ stage₀ counts₀ change₀ left₀ w next numbers indices tally stage counts change left =
-    OnPath (columnsOf matrix n) n start (tally₀ .rng) (Within allowance cap) stage w tally × Falls plusZero (columnsOf matrix n) n start (tally₀ .rng)
-    × Written (columnsOf matrix n) n start (tally₀ .rng) stage counts change × (left ≡ nonzeros w)
-    × (closes (columnsOf matrix n) n start (tally₀ .rng) allowance cap stage ≡ false)
+Inv-loop matrix bits n start w₀ next₀ numbers₀ indices₀ allowance cap tally₀ stage₀ counts₀ change₀ left₀
+    w next numbers indices tally stage counts change left =
+    OnPath (readOf matrix bits n) n start (tally₀ .rng) (Within allowance cap) stage w tally × Falls plusZero (readOf matrix bits n) n start (tally₀ .rng)
+    × Written (readOf matrix bits n) n start (tally₀ .rng) stage counts change × (left ≡ nonzeros w)
+    × (closes (readOf matrix bits n) n start (tally₀ .rng) allowance cap stage ≡ false)
     × (length next ≡ length next₀) × (length numbers ≡ length numbers₀) × (length indices ≡ length indices₀)
 
 abbrev μ-loop : tie.MeasureT-loop
-μ-loop matrix n start w₀ next₀ numbers₀ indices₀ allowance cap tally₀ stage₀ counts₀ change₀ left₀ w next numbers indices tally stage counts change left =
+μ-loop matrix bits n start w₀ next₀ numbers₀ indices₀ allowance cap tally₀ stage₀ counts₀ change₀ left₀
+    w next numbers indices tally stage counts change left =
     nonzeros w
 
 count-nonzeros-requires : tie.Need-count-nonzeros-requires Inv-loop μ-loop
@@ -48,7 +50,7 @@ array-write-nonzeros c = search needs
 
 change-of-requires : tie.Need-change-of-requires Inv-loop μ-loop
 change-of-requires c κs =
-    let at-start = c .before .before .before .before .before .before .before .before .before in
+    let at-start = c .before .before .before .before .before .before .before .before .before .before in
     let same = ap length (at-start .pre .2) in
     (lent-of (at-start .args .start .now) (at-start .pre .0) (sym same), same)
 
@@ -63,21 +65,21 @@ unfolding tabulate
 loop-holds c =
     let at-count = c .before .before in
     let at-known = at-count .before .before .before .before .before .before in
-    let at-start = at-known .before .before in
+    let at-start = at-known .before .before .before in
     let a = at-start .args in
     let same = at-start .pre .2 in
     let few = at-start .pre .0 .few in
     let small : bounded one (a .start .now) ≡ true = rw same at (at-start .pre .1) in
-    let on = on-start (columnsOf (a .matrix .now) (a .n)) (a .n) (a .start .now) (a .source) (omega (arith, few, ap length same))
+    let on = on-start (readOf (a .matrix .now) (a .bits .now) (a .n)) (a .n) (a .start .now) (a .source) (omega (arith, few, ap length same))
     (Within (a .allowance) (a .cap)) (record { directions = 0; sweeps = 0; rng = a .source }) refl refl refl in (
       rw same on,
-      falling (columnsOf (a .matrix .now) (a .n)) (a .n) (a .start .now) (a .source)
-          (normal-bounded (a .start .now) (λ j l. at-known .shared-slice-known2 .given j) small) (omega (arith, few, ap length same)),
-      note-first (columnsOf (a .matrix .now) (a .n)) (a .n) (a .start .now) (a .source) on
+      falling (readOf (a .matrix .now) (a .bits .now) (a .n)) (a .n) (a .start .now) (a .source)
+          (normal-bounded (a .start .now) (λ j l. at-known .shared-slice-known3 .given j) small) (omega (arith, few, ap length same)),
+      note-first (readOf (a .matrix .now) (a .bits .now) (a .n)) (a .n) (a .start .now) (a .source) on
           (at-count .count-nonzeros .ensures ∙ ap nonzeros same)
-          (c .change-of .ensures ∙ ap (maxChange (columnsOf (a .matrix .now) (a .n)) (length (a .start .now)) (a .n) (a .start .now)) same),
+          (c .change-of .ensures ∙ ap (maxChange (readOf (a .matrix .now) (a .bits .now) (a .n)) (length (a .start .now)) (a .n) (a .start .now)) same),
       at-count .count-nonzeros .ensures,
-      opens (columnsOf (a .matrix .now) (a .n)) (a .n) (a .start .now) (a .source) (a .allowance) (a .cap),
+      opens (readOf (a .matrix .now) (a .bits .now) (a .n)) (a .n) (a .start .now) (a .source) (a .allowance) (a .cap),
       refl,
       refl,
       refl,
@@ -87,7 +89,7 @@ try-pass-requires : tie.Need-try-pass-requires Inv-loop μ-loop
 try-pass-requires c κs =
     let at-test = c .before .before .before .before in
     let at-loop = at-test .before in
-    let at-start = at-loop .before .before .before .before .before .before .before .before .before .before .before in
+    let at-start = at-loop .before .before .before .before .before .before .before .before .before .before .before .before in
     let a = at-start .args in
     let inv = at-loop .loop .inv in
     let same = ap length (at-start .pre .2) in
@@ -97,7 +99,7 @@ try-pass-requires c κs =
       inv .5 ∙ at-start .pre .3 ∙ same ∙ sym long,
       omega (arith, inv .3, at-test .loop-test .taken),
       countable-at (omega (arith, at-start .pre .0 .few, same)) (inv .0 .near)
-          (on-tallied (columnsOf (a .matrix .now) (a .n)) (a .n) (a .start .now) (a .source) (inv .0)),
+          (on-tallied (readOf (a .matrix .now) (a .bits .now) (a .n)) (a .n) (a .start .now) (a .source) (inv .0)),
     )
 
 add-stage : tie.Need-add-stage Inv-loop μ-loop
@@ -142,12 +144,12 @@ loop-less c =
     let at-try = at-taken .before .before .before .before .before .before .before .before .before .before .before in
     let at-test = at-try .before .before .before .before .before in
     let at-loop = at-test .before in
-    let at-start = at-loop .before .before .before .before .before .before .before .before .before .before .before in
+    let at-start = at-loop .before .before .before .before .before .before .before .before .before .before .before .before in
     let a = at-start .args in
     let inv = at-loop .loop .inv in
     let some : 1 < nonzeros (at-loop .loop .w) = omega (arith, inv .3, at-test .loop-test .taken) in
     let taken = not-false (at-try .try-pass .result .taken) (at-taken .if1 .left) in
-    allowance-fewer (columnsOf (a .matrix .now) (a .n)) (a .n) (a .start .now) (a .source) (inv .1) (at-start .pre .4) (inv .0) (inv .4) some
+    allowance-fewer (readOf (a .matrix .now) (a .bits .now) (a .n)) (a .n) (a .start .now) (a .source) (inv .1) (at-start .pre .4) (inv .0) (inv .4) some
     (at-try .try-pass .ensures) taken
 
 loop-again : tie.Need-loop-again Inv-loop μ-loop
@@ -157,33 +159,33 @@ loop-again c =
     let at-try = at-taken .before .before .before .before .before .before .before .before .before .before .before in
     let at-test = at-try .before .before .before .before .before in
     let at-loop = at-test .before in
-    let at-start = at-loop .before .before .before .before .before .before .before .before .before .before .before in
+    let at-start = at-loop .before .before .before .before .before .before .before .before .before .before .before .before in
     let a = at-start .args in
     let inv = at-loop .loop .inv in
     let k = at-try .try-pass .kept in
     let some : 1 < nonzeros (at-loop .loop .w) = omega (arith, inv .3, at-test .loop-test .taken) in
     let taken = not-false (at-try .try-pass .result .taken) (at-taken .if1 .left) in
     let more = not-false (at-try .try-pass .result .more) (c .if2 .left) in
-    let on = allowance-on (columnsOf (a .matrix .now) (a .n)) (a .n) (a .start .now) (a .source) (inv .1) (at-start .pre .4) (inv .0) (inv .4) some
+    let on = allowance-on (readOf (a .matrix .now) (a .bits .now) (a .n)) (a .n) (a .start .now) (a .source) (inv .1) (at-start .pre .4) (inv .0) (inv .4) some
     (at-try .try-pass .ensures) taken in (
       on,
       inv .1,
-      note (columnsOf (a .matrix .now) (a .n)) (a .n) (a .start .now) (a .source) on (at-count .count-nonzeros2 .ensures)
-          (measured (columnsOf (a .matrix .now) (a .n)) (a .n) (a .start .now) (a .source) (inv .1) (at-start .pre .4) (inv .0) (inv .4) some
+      note (readOf (a .matrix .now) (a .bits .now) (a .n)) (a .n) (a .start .now) (a .source) on (at-count .count-nonzeros2 .ensures)
+          (measured (readOf (a .matrix .now) (a .bits .now) (a .n)) (a .n) (a .start .now) (a .source) (inv .1) (at-start .pre .4) (inv .0) (inv .4) some
           (at-try .try-pass .ensures) taken)
           (inv .2 .counts) (inv .2 .moves),
       at-count .count-nonzeros2 .ensures,
-      allowance-goes (columnsOf (a .matrix .now) (a .n)) (a .n) (a .start .now) (a .source) (inv .1) (at-start .pre .4) (inv .0) (inv .4) some
+      allowance-goes (readOf (a .matrix .now) (a .bits .now) (a .n)) (a .n) (a .start .now) (a .source) (inv .1) (at-start .pre .4) (inv .0) (inv .4) some
           (at-try .try-pass .ensures) taken more,
-      k .1 .1 .1 .1 .0 ∙ inv .5,
-      k .1 .1 .1 .1 .1 .0 ∙ inv .6,
-      k .1 .1 .1 .1 .1 .1 .0 ∙ inv .7,
+      k .1 .1 .1 .1 .1 .0 ∙ inv .5,
+      k .1 .1 .1 .1 .1 .1 .0 ∙ inv .6,
+      k .1 .1 .1 .1 .1 .1 .1 .0 ∙ inv .7,
     )
 
 same-length : tie.Need-same-length Inv-loop μ-loop
 same-length c =
     let at-loop = c .before in
-    let at-start = at-loop .before .before .before .before .before .before .before .before .before .before .before in
+    let at-start = at-loop .before .before .before .before .before .before .before .before .before .before .before .before in
     at-loop .loop .inv .0 .long ∙ sym (ap length (at-start .pre .2))
 
 same-length-2 : tie.Need-same-length-2 Inv-loop μ-loop
@@ -198,21 +200,21 @@ same-length-4 c = search needs
 returns : tie.Need-returns Inv-loop μ-loop
 returns c =
     let at-loop = c .before in
-    let at-start = at-loop .before .before .before .before .before .before .before .before .before .before .before in
+    let at-start = at-loop .before .before .before .before .before .before .before .before .before .before .before .before in
     let a = at-start .args in
     let inv = at-loop .loop .inv in
     rw (at-start .pre .2)
-    (allowance-met (columnsOf (a .matrix .now) (a .n)) (a .n) (a .start .now) (a .source) (inv .1) (at-start .pre .4) (inv .0)
+    (allowance-met (readOf (a .matrix .now) (a .bits .now) (a .n)) (a .n) (a .start .now) (a .source) (inv .1) (at-start .pre .4) (inv .0)
     (omega (arith, inv .3, c .loop-test .left))
-    (noted (columnsOf (a .matrix .now) (a .n)) (a .n) (a .start .now) (a .source) (inv .0 .near) (inv .2)
-    (on-tallied (columnsOf (a .matrix .now) (a .n)) (a .n) (a .start .now) (a .source) (inv .0)) _ refl refl refl refl refl))
+    (noted (readOf (a .matrix .now) (a .bits .now) (a .n)) (a .n) (a .start .now) (a .source) (inv .0 .near) (inv .2)
+    (on-tallied (readOf (a .matrix .now) (a .bits .now) (a .n)) (a .n) (a .start .now) (a .source) (inv .0)) _ refl refl refl refl refl))
 
 same-length-5 : tie.Need-same-length-5 Inv-loop μ-loop
 same-length-5 c =
     let at-try = c .before .before .before .before .before .before .before .before .before .before .before in
     let at-loop = at-try .before .before .before .before .before .before in
-    let at-start = at-loop .before .before .before .before .before .before .before .before .before .before .before in
-    at-try .try-pass .kept .1 .1 .1 .0 ∙ at-loop .loop .inv .0 .long ∙ sym (ap length (at-start .pre .2))
+    let at-start = at-loop .before .before .before .before .before .before .before .before .before .before .before .before in
+    at-try .try-pass .kept .1 .1 .1 .1 .0 ∙ at-loop .loop .inv .0 .long ∙ sym (ap length (at-start .pre .2))
 
 same-length-6 : tie.Need-same-length-6 Inv-loop μ-loop
 same-length-6 c = search needs
@@ -228,24 +230,24 @@ returns-2 c =
     let at-try = c .before .before .before .before .before .before .before .before .before .before .before in
     let at-test = at-try .before .before .before .before .before in
     let at-loop = at-test .before in
-    let at-start = at-loop .before .before .before .before .before .before .before .before .before .before .before in
+    let at-start = at-loop .before .before .before .before .before .before .before .before .before .before .before .before in
     let a = at-start .args in
     let inv = at-loop .loop .inv in
     let some : 1 < nonzeros (at-loop .loop .w) = omega (arith, inv .3, at-test .loop-test .taken) in
     let left = not-true (at-try .try-pass .result .taken) (c .if1 .taken) in
     rw (at-start .pre .2)
-    (allowance-left (columnsOf (a .matrix .now) (a .n)) (a .n) (a .start .now) (a .source) (inv .1) (at-start .pre .4) (inv .0) (inv .4) some
+    (allowance-left (readOf (a .matrix .now) (a .bits .now) (a .n)) (a .n) (a .start .now) (a .source) (inv .1) (at-start .pre .4) (inv .0) (inv .4) some
     (at-try .try-pass .ensures) left
-    (noted (columnsOf (a .matrix .now) (a .n)) (a .n) (a .start .now) (a .source) (inv .0 .near) (inv .2)
-    (tried-tallied (columnsOf (a .matrix .now) (a .n)) (a .n) (a .start .now) (a .source) (inv .1) (at-start .pre .4) (inv .0) (inv .4) some
+    (noted (readOf (a .matrix .now) (a .bits .now) (a .n)) (a .n) (a .start .now) (a .source) (inv .0 .near) (inv .2)
+    (tried-tallied (readOf (a .matrix .now) (a .bits .now) (a .n)) (a .n) (a .start .now) (a .source) (inv .1) (at-start .pre .4) (inv .0) (inv .4) some
     (at-try .try-pass .ensures)) _ refl refl refl refl refl))
 
 same-length-9 : tie.Need-same-length-9 Inv-loop μ-loop
 same-length-9 c =
     let at-try = c .before .before .before .before .before .before .before .before .before .before .before .before .before .before .before in
     let at-loop = at-try .before .before .before .before .before .before in
-    let at-start = at-loop .before .before .before .before .before .before .before .before .before .before .before in
-    at-try .try-pass .kept .1 .1 .1 .0 ∙ at-loop .loop .inv .0 .long ∙ sym (ap length (at-start .pre .2))
+    let at-start = at-loop .before .before .before .before .before .before .before .before .before .before .before .before in
+    at-try .try-pass .kept .1 .1 .1 .1 .0 ∙ at-loop .loop .inv .0 .long ∙ sym (ap length (at-start .pre .2))
 
 same-length-10 : tie.Need-same-length-10 Inv-loop μ-loop
 same-length-10 c = search needs
@@ -263,23 +265,23 @@ returns-3 c =
     let at-try = at-taken .before .before .before .before .before .before .before .before .before .before .before in
     let at-test = at-try .before .before .before .before .before in
     let at-loop = at-test .before in
-    let at-start = at-loop .before .before .before .before .before .before .before .before .before .before .before in
+    let at-start = at-loop .before .before .before .before .before .before .before .before .before .before .before .before in
     let a = at-start .args in
     let inv = at-loop .loop .inv in
     let some : 1 < nonzeros (at-loop .loop .w) = omega (arith, inv .3, at-test .loop-test .taken) in
     let taken = not-false (at-try .try-pass .result .taken) (at-taken .if1 .left) in
     let last = not-true (at-try .try-pass .result .more) (c .if2 .taken) in
-    let on = allowance-on (columnsOf (a .matrix .now) (a .n)) (a .n) (a .start .now) (a .source) (inv .1) (at-start .pre .4) (inv .0) (inv .4) some
+    let on = allowance-on (readOf (a .matrix .now) (a .bits .now) (a .n)) (a .n) (a .start .now) (a .source) (inv .1) (at-start .pre .4) (inv .0) (inv .4) some
     (at-try .try-pass .ensures) taken in
-    let path = note (columnsOf (a .matrix .now) (a .n)) (a .n) (a .start .now) (a .source) on (at-count .count-nonzeros2 .ensures)
-    (measured (columnsOf (a .matrix .now) (a .n)) (a .n) (a .start .now) (a .source) (inv .1) (at-start .pre .4) (inv .0) (inv .4) some
+    let path = note (readOf (a .matrix .now) (a .bits .now) (a .n)) (a .n) (a .start .now) (a .source) on (at-count .count-nonzeros2 .ensures)
+    (measured (readOf (a .matrix .now) (a .bits .now) (a .n)) (a .n) (a .start .now) (a .source) (inv .1) (at-start .pre .4) (inv .0) (inv .4) some
     (at-try .try-pass .ensures) taken)
     (inv .2 .counts) (inv .2 .moves) in
     rw (at-start .pre .2)
-    (allowance-last (columnsOf (a .matrix .now) (a .n)) (a .n) (a .start .now) (a .source) (inv .1) (at-start .pre .4) (inv .0) (inv .4) some
+    (allowance-last (readOf (a .matrix .now) (a .bits .now) (a .n)) (a .n) (a .start .now) (a .source) (inv .1) (at-start .pre .4) (inv .0) (inv .4) some
     (at-try .try-pass .ensures) taken last
-    (noted (columnsOf (a .matrix .now) (a .n)) (a .n) (a .start .now) (a .source) (on .near) path
-    (on-tallied (columnsOf (a .matrix .now) (a .n)) (a .n) (a .start .now) (a .source) on) _ refl refl refl refl refl))
+    (noted (readOf (a .matrix .now) (a .bits .now) (a .n)) (a .n) (a .start .now) (a .source) (on .near) path
+    (on-tallied (readOf (a .matrix .now) (a .bits .now) (a .n)) (a .n) (a .start .now) (a .source) on) _ refl refl refl refl refl))
 
 pub to-allowance-spec : {M : Type 1} → statement M
 to-allowance-spec =

@@ -1,6 +1,6 @@
 -- `trial::try_pass` meets its contract: each way out is one of the laws of Trying.
 use mathlib.Core.Bool.{not}
-use Rattle.limits.specs.Matrix.{columnsOf}
+use Rattle.limits.specs.Reading.{readOf}
 use Rattle.halve.proofs.Calls.{ready-still}
 use Rattle.trial.proofs.Trying.{lent-of, left-tried, taken-tried}
 use borrow.Author.Needs.{needs}
@@ -15,16 +15,16 @@ copy-requires c κs = search needs
 halving-pass-requires : tie.Need-halving-pass-requires
 halving-pass-requires c κs =
     let at-copy = c .before .before .before .before .before in
-    let at-start = at-copy .before .before .before .before .before .before .before .before .before in
+    let at-start = at-copy .before .before .before .before .before .before .before .before .before .before in
     (ready-still (at-start .pre .0) (ap length (at-copy .copy .ensures)) refl refl, rw (at-copy .copy .ensures) (at-start .pre .3), at-start .pre .4)
 
 change-of-requires : tie.Need-change-of-requires
 change-of-requires c κs =
     let at-pass = c .before .before .before .before .before .before .before in
     let at-copy = at-pass .before .before .before .before .before .before in
-    let at-start = at-copy .before .before .before .before .before .before .before .before .before in (
+    let at-start = at-copy .before .before .before .before .before .before .before .before .before .before in (
       lent-of (at-start .args .start .now) (at-start .pre .0) (at-start .pre .1),
-      at-pass .halving-pass .kept .1 .1 .0 ∙ ap length (at-copy .copy .ensures) ∙ sym (at-start .pre .1),
+      at-pass .halving-pass .kept .1 .1 .1 .0 ∙ ap length (at-copy .copy .ensures) ∙ sym (at-start .pre .1),
     )
 
 ends-there-requires : tie.Need-ends-there-requires
@@ -48,9 +48,9 @@ returns c =
     let at-change = at-ends .before .before in
     let at-pass = at-change .before .before .before .before .before .before .before .before in
     let at-copy = at-pass .before .before .before .before .before .before in
-    let at-start = at-copy .before .before .before .before .before .before .before .before .before in
+    let at-start = at-copy .before .before .before .before .before .before .before .before .before .before in
     let a = at-start .args in
-    left-tried (columnsOf (a .matrix .now) (a .n)) (a .n) (a .start .now) (a .allowance) (a .cap) (a .w .now) (a .tally)
+    left-tried (readOf (a .matrix .now) (a .bits .now) (a .n)) (a .n) (a .start .now) (a .allowance) (a .cap) (a .w .now) (a .tally)
     (at-copy .copy .ensures) (at-pass .halving-pass .ensures) (at-change .change-of .ensures)
     (sym (at-ends .ends-there .ensures) ∙ c .if1 .taken) _ refl refl refl refl
 
@@ -58,7 +58,7 @@ copy-requires-2 : tie.Need-copy-requires-2
 copy-requires-2 c κs =
     let at-pass = c .before .before .before .before .before .before .before .before .before .before .before .before .before in
     let at-copy = at-pass .before .before .before .before .before .before in
-    sym (at-pass .halving-pass .kept .1 .1 .0 ∙ ap length (at-copy .copy .ensures))
+    sym (at-pass .halving-pass .kept .1 .1 .1 .0 ∙ ap length (at-copy .copy .ensures))
 
 ends-there-requires-2 : tie.Need-ends-there-requires-2
 ends-there-requires-2 c κs = search needs
@@ -83,9 +83,9 @@ returns-2 c =
     let at-change = at-ends .before .before in
     let at-pass = at-change .before .before .before .before .before .before .before .before in
     let at-copy = at-pass .before .before .before .before .before .before in
-    let at-start = at-copy .before .before .before .before .before .before .before .before .before in
+    let at-start = at-copy .before .before .before .before .before .before .before .before .before .before in
     let a = at-start .args in
-    taken-tried (columnsOf (a .matrix .now) (a .n)) (a .n) (a .start .now) (a .allowance) (a .cap) (a .w .now) (a .tally)
+    taken-tried (readOf (a .matrix .now) (a .bits .now) (a .n)) (a .n) (a .start .now) (a .allowance) (a .cap) (a .w .now) (a .tally)
     (at-copy .copy .ensures) (at-pass .halving-pass .ensures) (at-change .change-of .ensures)
     (sym (at-ends .ends-there .ensures) ∙ at-goes .if1 .left) _ (at-back .copy2 .ensures) _ refl refl refl (ap not (c .ends-there2 .ensures))
 

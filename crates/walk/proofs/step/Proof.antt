@@ -18,7 +18,7 @@ add-base-2 c = search needs
 
 mul-end : tie.Need-mul-end
 mul-end c =
-    let at-start = c .before .before .before .before .before .before .before .before in
+    let at-start = c .before .before .before .before .before .before .before .before .before in
     omega (
       arith,
       vectors-room (length (at-start .args .cols .now)) (at-start .args .numbers .now) (at-start .args .blocked .now)
@@ -27,7 +27,7 @@ mul-end c =
 
 add-end : tie.Need-add-end
 add-end c =
-    let at-start = c .before .before .before .before .before .before .before .before in
+    let at-start = c .before .before .before .before .before .before .before .before .before in
     omega (
       arith,
       vectors-room (length (at-start .args .cols .now)) (at-start .args .numbers .now) (at-start .args .blocked .now)
@@ -48,7 +48,7 @@ part-direct-start c = search needs
 
 part-direct-end : tie.Need-part-direct-end
 part-direct-end c =
-    let at-start = c .before .before .before .before .before .before .before .before .before .before .before .before .before in
+    let at-start = c .before .before .before .before .before .before .before .before .before .before .before .before .before .before in
     omega (
       arith,
       vectors-room (length (at-start .args .cols .now)) (at-start .args .numbers .now) (at-start .args .blocked .now)
@@ -71,13 +71,13 @@ returns : tie.Need-returns
 returns c =
     let at-direct = c .before .before .before in
     let at-draw-into = at-direct .before .before .before .before .before .before .before in
-    let at-start = at-draw-into .before .before .before .before .before .before .before .before .before .before in
+    let at-start = at-draw-into .before .before .before .before .before .before .before .before .before .before .before in
     let a = at-start .args in
     let p = at-start .pre in
     let l = length (a .cols .now) in
     let r = length (a .blocked .now) in
     let m = a .from .count * l in
-    let e = entryOf (a .matrix .now) (a .n) (a .cols .now) (a .scale .now) in
+    let e = entryOf (a .matrix .now) (a .bits .now) (a .n) (a .cols .now) (a .scale .now) in
     stops-short e l (a .numbers .now) (a .blocked .now) (a .x .now) (a .free .now) (a .from .count) (a .from .frozen)
     (a .from .rng) (r + r + r + m - (r + r + r)) (a .g .now) (at-draw-into .draw-into .last .0)
     (at-direct .direct .last .1 .1 .1 .1 .0) (at-direct .direct .result) (p .1) (omega arith) (p .2)
@@ -88,7 +88,7 @@ advance-requires : tie.Need-advance-requires
 advance-requires c κs =
     let at-direct = c .before .before .before .before .before .before .before in
     let at-draw-into = at-direct .before .before .before .before .before .before .before in
-    let at-start = at-draw-into .before .before .before .before .before .before .before .before .before .before in
+    let at-start = at-draw-into .before .before .before .before .before .before .before .before .before .before .before in
     let p = at-start .pre in
     (p .0, at-direct .direct .kept .1 .1 .1 .1 .0 ∙ at-draw-into .draw-into .kept .0 ∙ p .2, p .1 .wide, p .1 .marks, omega (arith, p .1 .room))
 
@@ -110,13 +110,13 @@ returns-2 c =
     let at-if1 = at-advance .before .before .before .before .before in
     let at-direct = at-if1 .before .before .before in
     let at-draw-into = at-direct .before .before .before .before .before .before .before in
-    let at-start = at-draw-into .before .before .before .before .before .before .before .before .before .before in
+    let at-start = at-draw-into .before .before .before .before .before .before .before .before .before .before .before in
     let a = at-start .args in
     let p = at-start .pre in
     let l = length (a .cols .now) in
     let r = length (a .blocked .now) in
     let m = a .from .count * l in
-    let e = entryOf (a .matrix .now) (a .n) (a .cols .now) (a .scale .now) in
+    let e = entryOf (a .matrix .now) (a .bits .now) (a .n) (a .cols .now) (a .scale .now) in
     stops-nowhere e l (a .numbers .now) (a .blocked .now) (a .x .now) (a .free .now) (a .from .count) (a .from .frozen)
     (a .from .rng) (r + r + r + m - (r + r + r)) (a .g .now) (at-draw-into .draw-into .last .0)
     (at-direct .direct .last .1 .1 .1 .1 .0) (at-direct .direct .result) (p .1) (omega arith) (p .2)
@@ -130,11 +130,11 @@ freeze-requires c κs =
     let at-advance = c .before .before .before .before .before .before .before .before .before .before .before .before in
     let at-direct = at-advance .before .before .before .before .before .before .before .before in
     let at-draw-into = at-direct .before .before .before .before .before .before .before in
-    let at-start = at-draw-into .before .before .before .before .before .before .before .before .before .before in
+    let at-start = at-draw-into .before .before .before .before .before .before .before .before .before .before .before in
     let p = at-start .pre in (
       p .0,
       roomy-kept _ _ (p .1) (at-advance .advance .kept .0) (at-advance .advance .kept .1 .1 .0),
-      at-advance .advance .kept .1 .1 .1 .1 .1 .1 .1 .1 .0 ∙ at-direct .direct .kept .1 .1 .1 .1 .0 ∙ at-draw-into .draw-into .kept .0
+      at-advance .advance .kept .1 .1 .1 .1 .1 .1 .1 .1 .1 .0 ∙ at-direct .direct .kept .1 .1 .1 .1 .0 ∙ at-draw-into .draw-into .kept .0
           ∙ p .2,
       p .3,
     )
@@ -157,7 +157,7 @@ same-length-12 c =
     let at-advance = at-freeze .before .before .before .before .before .before .before .before .before .before .before .before .before in
     let at-direct = at-advance .before .before .before .before .before .before .before .before in
     let at-draw-into = at-direct .before .before .before .before .before .before .before in
-    at-freeze .freeze .kept .1 .1 .1 .1 .1 .1 .1 .1 .1 .0 ∙ at-advance .advance .kept .1 .1 .1 .1 .1 .1 .1 .1 .0 ∙ at-direct .direct .kept .1 .1 .1 .1 .0
+    at-freeze .freeze .kept .1 .1 .1 .1 .1 .1 .1 .1 .1 .1 .0 ∙ at-advance .advance .kept .1 .1 .1 .1 .1 .1 .1 .1 .1 .0 ∙ at-direct .direct .kept .1 .1 .1 .1 .0
     ∙ at-draw-into .draw-into .kept .0
 
 returns-3 : tie.Need-returns-3
@@ -168,13 +168,13 @@ returns-3 c =
     let at-if1 = at-advance .before .before .before .before .before in
     let at-direct = at-if1 .before .before .before in
     let at-draw-into = at-direct .before .before .before .before .before .before .before in
-    let at-start = at-draw-into .before .before .before .before .before .before .before .before .before .before in
+    let at-start = at-draw-into .before .before .before .before .before .before .before .before .before .before .before in
     let a = at-start .args in
     let p = at-start .pre in
     let l = length (a .cols .now) in
     let r = length (a .blocked .now) in
     let m = a .from .count * l in
-    let e = entryOf (a .matrix .now) (a .n) (a .cols .now) (a .scale .now) in
+    let e = entryOf (a .matrix .now) (a .bits .now) (a .n) (a .cols .now) (a .scale .now) in
     moves-on e l (a .numbers .now) (a .blocked .now) (a .x .now) (a .free .now) (a .from .count) (a .from .frozen)
     (a .from .rng) (r + r + r + m - (r + r + r)) (a .g .now) (at-draw-into .draw-into .last .0)
     (at-direct .direct .last .1 .1 .1 .1 .0) (at-direct .direct .result) (p .1) (omega arith) (p .2)
