@@ -7,6 +7,7 @@ use limits::scratch_short;
 use limits::too_large;
 use seq::clear;
 use seq::clear_words;
+use seq::count_up;
 use seq::fill;
 ghost use mathlib.Core.Path.{_≡_};
 ghost use mathlib.Core.Bool.{true};
@@ -53,18 +54,6 @@ fn coloring_fault(
         0
     } else {
         11
-    }
-}
-
-// 0, 1, .. in order.
-fn count_up(a: &mut [u32])
-    requires { ⌜ length (now a) ≤ 256 ⌝ }
-    ensures { λ _. ⌜ now (a .exit) ≡ tabulate (λ i. i) (length (now (a .entry))) ⌝ }
-{
-    let mut i = 0usize;
-    while i < a.len() {
-        a[i] = i as u32;
-        i += 1;
     }
 }
 

@@ -8,6 +8,7 @@ use borrow.Author.Needs.{needs}
 use Prim.Native.Nat.{ℕ}
 use mathlib.Core.Path.{sym, subst}
 use mathlib.Core.List.{List}
+use native.Mathlib.Omega.{arith}
 use lib.ListN.{take}
 use Rattle.discrepancy.proofs.color_all.Statement.{statement}
 use Rattle.discrepancy.proofs.color_all.Tie as tie
@@ -19,7 +20,9 @@ slice-aggregate-count-up : tie.Need-slice-aggregate-count-up
 slice-aggregate-count-up c = sym (length-take-le _ _ (c .before .before .before .before .before .before .pre .1))
 
 count-up-requires : tie.Need-count-up-requires
-count-up-requires c κs = front-few _ _ _ (c .before .before .before .before .before .before .pre .1)
+count-up-requires c κs =
+    let at-start = c .before .before .before .before .before .before in
+    front-few (at-start .args .m) 4294967296 _ (omega (arith, at-start .pre .1))
 
 array-borrow-prefix-scale : tie.Need-array-borrow-prefix-scale
 array-borrow-prefix-scale c = search needs
