@@ -20,12 +20,11 @@ use Rattle.ieee.proofs.Signs.{nought-is, nought-finite}
 use Rattle.ieee.proofs.ByMagnitude.{height, above-is}
 use Rattle.margins.specs.Margins.{changeTo}
 use Rattle.ranking.specs.Ranking.{heavier}
-use Rattle.sorting.specs.Arranged.{EachOnce, InOrder, upTo}
+use Rattle.arranged.specs.Arranged.{EachOnce, InOrder, upTo}
 use Rattle.sorting.specs.Moved.{movedRows}
 use Rattle.sorting.proofs.Answers.{only-moved}
-use Rattle.sorting.proofs.Heights.{heavier-order}
-use Rattle.sorting.proofs.Joining.{itself}
-use Rattle.sorting.proofs.Ordered.{order-start, order-more, order-all}
+use Rattle.arranged.proofs.Heights.{heavier-order}
+use Rattle.arranged.proofs.Ordered.{itself, order-start, order-more, order-all}
 use Rattle.moving.specs.Changes.{changesOf}
 use Rattle.moving.specs.Answers.{lentChanges, Listed}
 use Rattle.moving.proofs.Promises.{listed-index, as-many-rows}

@@ -16,7 +16,7 @@ use Rattle.ieee.proofs.Signs.{nought-is}
 use Rattle.limits.specs.Matrix.{columnsOf}
 use Rattle.margins.specs.Margins.{changeTo, maxChange}
 use Rattle.ranking.specs.Ranking.{heavier}
-use Rattle.sorting.specs.Arranged.{EachOnce, InOrder}
+use Rattle.arranged.specs.Arranged.{EachOnce, InOrder}
 use Rattle.sorting.specs.Moved.{movedRows, changesAt}
 use Rattle.sorting.proofs.Answers.{moved-once, moved-order, length-moved}
 use Rattle.sorting.proofs.First.{first-is-largest}

@@ -16,14 +16,15 @@ use Rattle.seq.proofs.Filling.{length-tab, getD-tab}
 use Rattle.seq.proofs.Sorting.{length-sorted}
 use Rattle.ieee.specs.Magnitude.{absOf, aboveOf}
 use Rattle.ieee.specs.Units.{isNum}
-use Rattle.sorting.specs.Arranged.{occurs, Order, InOrder, Arranged, EachOnce, Within}
+use Rattle.arranged.specs.Arranged.{occurs, Order, InOrder, Arranged, EachOnce}
 use Rattle.ranking.specs.Ranking.{heavier}
-use Rattle.sorting.specs.Moved.{movedRows, Sizes, Numbers, sizesOf}
-use Rattle.sorting.proofs.Heights.{heavier-order}
-use Rattle.sorting.proofs.Inserting.{arranged-is, sorted-same, sorted-order}
-use Rattle.sorting.proofs.Joining.{already}
-use Rattle.sorting.proofs.Marking.{up-above, up-below}
-use Rattle.sorting.proofs.Occurrences.{leads-cons}
+use Rattle.sorting.specs.Moved.{movedRows, Numbers}
+use Rattle.ahead.specs.Sizes.{Sizes, sizesOf}
+use Rattle.arranged.proofs.Heights.{heavier-order}
+use Rattle.arranged.proofs.Inserting.{arranged-is, sorted-same, sorted-order}
+use Rattle.arranged.proofs.Ordered.{already}
+use Rattle.arranged.proofs.Once.{up-below}
+use Rattle.arranged.proofs.Occurrences.{leads-cons}
 
 pub length-sizes : (w : List Float) → length (sizesOf w) ≡ length w
 unfolding sizesOf
@@ -81,14 +82,6 @@ answer w {xs} {ys} g o a = arranged-is (heavier w) (heavier-order w g) (length w
 pub moved-sizes : (w : List Float) → movedRows (sizesOf w) ≡ movedRows w
 unfolding movedRows
 moved-sizes w = λ i. sorted (heavier-sizes w i) (λ k. k) (length-sizes w i)
-
--- each row once, so none is too large
-pub once-within : {n : ℕ} {xs : List ℕ} → EachOnce n xs → Within xs n
-once-within {n} {xs} e = record { below = λ x h. go x h (decLt x n) }
-  where
-    go : (x : ℕ) → 0 < occurs x xs → Dec (x < n) → x < n
-    go x h (yes l) = l
-    go x h (no l) = absurd (omega (arith, e .often x, up-above n x (omega arith)))
 
 pub moved-once : (w : List Float) → EachOnce (length w) (movedRows w)
 unfolding movedRows

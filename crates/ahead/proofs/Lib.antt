@@ -1,0 +1,2 @@
+-- The order by magnitude on magnitudes.
+pub mod Ahead

@@ -1,0 +1,2 @@
+-- What magnitudes are.
+pub mod Sizes

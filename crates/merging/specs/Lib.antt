@@ -1,0 +1,2 @@
+-- The merge of two lists.
+pub mod Merged
