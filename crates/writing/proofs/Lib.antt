@@ -1,7 +1,4 @@
--- Laws of the writer: what is put piece by piece is the sheet's text, what is written is read back, and what is read is written again.
-pub mod Laid
-pub mod Loops
+-- Laws of the writer: what it refuses, the whole sheet in the buffer, and that no second answer fits.
 pub mod Faults
 pub mod Whole
-pub mod Back
 pub mod Sole

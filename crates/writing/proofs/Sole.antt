@@ -1,15 +1,12 @@
--- No second answer fits what the writer and the reader promise.
-use Prim.Native.Nat.{ℕ, _*_}
+-- No second answer fits what the writer promises.
+use Prim.Native.Nat.{ℕ}
 use mathlib.Core.Path.{_≡_, sym, ap, _∙_}
 use mathlib.Core.List.{List, _++_}
 use lib.Dec.{eqb}
 use lib.ListN.{length, drop}
 use Rattle.seq.specs.Choice.{pick}
-use Rattle.head.specs.FirstLine.{headOf}
-use Rattle.form.specs.Reading.{weightBits, matrixBits}
 use Rattle.form.specs.Sheets.{Sheet, sheetText}
 use Rattle.writing.specs.Writing.{WroteSheet}
-use Rattle.writing.specs.ReadingBack.{firstOf, ReadBack}
 use Rattle.writing.specs.declared.Written.{Written}
 
 same-written : (a b c d : ℕ) → a ≡ c → b ≡ d → _≡_ {A = Written} (record { number = a; length = b }) (record { number = c; length = d })
@@ -22,15 +19,4 @@ sole-written {fault} {s} {text} {r} {q} {one} {two} a b =
     let l : r .length ≡ q .length = a .long ∙ ap (λ (x : ℕ). pick (eqb x 0) (length (sheetText s)) 0) n ∙ sym (b .long) in (
       same-written (r .number) (r .length) (q .number) (q .length) n l,
       a .writes ∙ ap (λ (x : ℕ). pick (eqb x 0) (sheetText s ++ drop (length (sheetText s)) text) text) n ∙ sym (b .writes),
-    )
-
-pub sole-read : {text matrix weights first : List ℕ} {r q : ℕ} {m m' w w' f f' : List ℕ} → ReadBack text matrix weights first r m w f
-    → ReadBack text matrix weights first q m' w' f' → (r ≡ q) × (m ≡ m') × (w ≡ w') × (f ≡ f')
-sole-read {text} {matrix} {weights} {first} {r} {q} a b =
-    let h = headOf text in
-    let n : r ≡ q = a .number ∙ sym (b .number) in (
-      n,
-      a .matrices ∙ ap (λ (x : ℕ). pick (eqb x 0) (matrixBits text h ++ drop (h .m * h .n) matrix) matrix) n ∙ sym (b .matrices),
-      a .weighed ∙ ap (λ (x : ℕ). pick (eqb x 0) (weightBits text h ++ drop (h .m) weights) weights) n ∙ sym (b .weighed),
-      a .firsts ∙ ap (λ (x : ℕ). pick (eqb x 0) (firstOf h ++ drop 7 first) first) n ∙ sym (b .firsts),
     )

@@ -1,3 +1,2 @@
--- What the writer of a sheet answers and writes, and what the reader as bits does.
+-- What the writer of a sheet answers and writes.
 pub mod Writing
-pub mod ReadingBack

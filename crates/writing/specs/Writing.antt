@@ -6,18 +6,9 @@ use mathlib.Core.List.{List, _++_}
 use lib.Dec.{eqb, ltb}
 use lib.ListN.{length, getD, drop}
 use Rattle.seq.specs.Choice.{pick}
-use Rattle.rules.specs.declared.Cap.{Cap}
-use Rattle.rules.specs.declared.Cap.the-variants.{Absent, AtMost}
-use Rattle.form.specs.Sheets.{Wish, target, within, Sheet, sheetText}
+use Rattle.form.specs.Sheets.{Sheet, sheetText}
+use Rattle.opening.specs.Wishes.{wishFor}
 use Rattle.writing.specs.declared.Written.{Written}
-
--- the cap of a rule's number that is not 0
-abbrev pub capFor : ℕ → ℕ → Cap
-capFor rule limit = pick (eqb rule 1) Absent (AtMost limit)
-
--- the wish of a rule's number: 0 a target, 1 an allowance without a cap, 2 an allowance with one
-abbrev pub wishFor : ℕ → ℕ → ℕ → Wish
-wishFor rule allowance limit = pick (eqb rule 0) (target limit) (within allowance (capFor rule limit))
 
 -- the sheet: the matrix is column after column
 abbrev pub sheetFor : List ℕ → ℕ → ℕ → List ℕ → ℕ → ℕ → ℕ → ℕ → ℕ → Sheet

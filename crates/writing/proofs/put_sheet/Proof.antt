@@ -1,7 +1,7 @@
 -- `writing::put_sheet` meets its contract: the first line, and the columns behind it.
 use Rattle.fields.proofs.Puts.{on-two}
-use Rattle.writing.specs.Writing.{wishFor}
-use Rattle.writing.proofs.Laid.{length-first}
+use Rattle.opening.specs.Wishes.{wishFor}
+use Rattle.opening.proofs.Laid.{length-first}
 use borrow.Author.Needs.{needs}
 use native.Mathlib.Omega.{arith}
 use Rattle.writing.proofs.put_sheet.Statement.{statement}

@@ -1,0 +1,2 @@
+-- Laws of the lines of columns, as they are written.
+pub mod Loops

@@ -1,0 +1,2 @@
+-- Laws of the first line, as it is written.
+pub mod Laid

@@ -1,0 +1,2 @@
+-- What the first line of a sheet wishes for.
+pub mod Wishes

@@ -1,0 +1,2 @@
+-- What the reader of a sheet as bits does.
+pub mod ReadingBack
