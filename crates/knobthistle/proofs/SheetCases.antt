@@ -15,7 +15,9 @@ use Rattle.form.specs.Sheets.{Sheet, Wish, Fits, Says, ruleOf, wishFits}
 use Rattle.faults.specs.Faults.{jobFault}
 use Rattle.sparsification.specs.Answers.{refusal, answerOf, returned}
 use Rattle.sparsification.specs.declared.Answer.{Answer}
-use Rattle.sheet.specs.Answer.{sheetFault, jobAnswer, jobText, okLine, answerText, sheetAnswer}
+use Rattle.asking.specs.Jobs.{sheetFault, jobAnswer, jobText}
+use Rattle.answering.specs.Answer.{okLine, answerText}
+use Rattle.sheet.specs.Answer.{sheetAnswer}
 use Rattle.rules.specs.declared.Rule.{Rule}
 use Rattle.knobthistle.specs.Cases.{matrix, withoutCounts, by, called, Room}
 

@@ -49,7 +49,8 @@ use Rattle.fields.specs.Digits.{digitsOf}
 use Rattle.fields.specs.Texts.{widthIn}
 use Rattle.form.specs.Sheets.{Wish, within, entriesText, columnText, columnsText}
 use Rattle.form.proofs.OfForm.{of-the-form-is-taken}
-use Rattle.sheet.specs.Answer.{sheetFault, jobText, okLine, weightLines, answerText}
+use Rattle.asking.specs.Jobs.{sheetFault, jobText}
+use Rattle.answering.specs.Answer.{okLine, weightLines, answerText}
 use Rattle.knobthistle.specs.Cases.{onSheet}
 use Rattle.knobthistle.specs.SheetBytes.{sheetWith, halfRule, underHalfRule, cappedRule, oneLeftText, bothLeftText}
 use Rattle.knobthistle.proofs.SheetCases.{room, answered-so, returned-so, saying, fitting, job-of, text-of}

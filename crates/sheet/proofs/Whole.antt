@@ -1,25 +1,22 @@
 -- The answer of a whole sheet: what is read from it, its answer in the buffer of the program and in the caller's, that no second answer fits, and how
 -- long an answer can be.
 use borrow.Author.Tests.{eq-eqb, ne-eqb, eqb-true, leb-true, le-leb, lt-leb}
-use Prim.Native.Nat.{ℕ, suc, _+_, _*_, _≤_, _<_}
+use Prim.Native.Nat.{ℕ, suc, _+_, _≤_, _<_}
 use mathlib.Core.Path.{_≡_, refl, sym, ap, _∙_}
 use mathlib.Core.Bool.{Bool, true, false}
-use mathlib.Core.List.{List, [], _∷_, _++_}
-use native.Mathlib.Nat.{mul-le-mul}
+use mathlib.Core.List.{List, _++_}
 use native.Mathlib.Omega.{arith}
 use lib.Dec.{eqb, leb}
-use lib.ListN.{length, take, drop, length-append, length-take}
-use lib.Seq.{length-take-le, take-at}
+use lib.ListN.{length, take, drop, length-take}
+use lib.Seq.{take-at}
 use lib.Ieee.{Float}
 use Rattle.seq.specs.Choice.{pick}
-use Rattle.seq.specs.Lists.{tabulate}
 use Rattle.seq.specs.Sums.{plusZero}
 use Rattle.seq.proofs.Filling.{length-tab}
 use Rattle.fields.proofs.Widths.{width-most}
 use Rattle.fields.proofs.Puts.{length-note}
 use Rattle.limits.specs.Matrix.{columnsOf}
 use Rattle.weights.specs.Weights.{normalized}
-use Rattle.sparsification.specs.declared.Answer.{Answer}
 use Rattle.rules.specs.declared.Rule.{Rule}
 use Rattle.sparsification.specs.Answers.{returned, stopFor}
 use Rattle.stages.proofs.Lengths.{length-normalized, length-stage}
@@ -36,37 +33,17 @@ use Rattle.form.proofs.LongText.{long-text-is-wrong, first-bytes-same-line}
 use Rattle.form.proofs.Verdicts.{Sized, sized}
 use Rattle.fields.specs.Texts.{noteText}
 use Rattle.fields.specs.Steps.{WroteOn}
-use Rattle.sheet.specs.Words.{badWord, refusedWord}
-use Rattle.sheet.specs.Answer.{okLine, weightLines, answerText, jobAnswer, jobText, sourceOf, sheetAnswer, Answered}
-use Rattle.sheet.specs.Steps.{Wrote}
-use Rattle.sheet.proofs.Puts.{front-of}
-use Rattle.sheet.proofs.Lines.{length-ok, length-lines}
+use Rattle.answering.specs.Words.{badWord}
+use Rattle.asking.specs.Jobs.{jobAnswer, jobText, sourceOf}
+use Rattle.sheet.specs.Answer.{sheetAnswer, Answered}
+use Rattle.answering.specs.Steps.{Wrote}
+use Rattle.answering.proofs.Puts.{front-of}
+use Rattle.answering.proofs.Lines.{length-answer}
 use Rattle.draw.specs.declared.SplitMix64.{SplitMix64}
 
 -- the sizes of a sheet of the form
 pub sizes-of : (t : List ℕ) (h : Head) (line : ℕ) → line ≡ wrongLine t → line ≡ 0 → h ≡ headOf t → Sized h
 sizes-of t h line e z g = sized t h g (ap (λ (k : Head). k .ok) g ∙ right t (sym e ∙ z) .first)
-
--- so many entries there is room for
-pub few : (m n : ℕ) → m ≤ 32 → n ≤ 64 → m * n ≤ 2048
-few m n h g = mul-le-mul h g
-
--- the front of an array is no longer than it is asked to be
-pub front-most : (k : ℕ) (xs : List Float) (b : ℕ) → k ≤ length xs → k ≤ b → length (take k xs) ≤ b
-front-most k xs b h g = omega (arith, length-take-le k xs h)
-
--- an array whose front was lent and came back as ys
-module _ (k : ℕ) (ys array : List Float) where
-  pub front-there : length ys ≡ length (take k array) → k ≤ length array → k ≤ length (ys ++ drop k array)
-  front-there e h = omega (arith, length-append ys (drop k array), length-take-le k array h)
-
-  pub front-whole : length ys ≡ length (take k array) → k ≤ length array → k ≡ length (take k (ys ++ drop k array))
-  front-whole e h = sym (length-take-le k (ys ++ drop k array) (front-there e h))
-
-  pub front-read : (f : ℕ → Float) → ys ≡ tabulate f (length (take k array)) → k ≤ length array → take k (ys ++ drop k array) ≡ tabulate f k
-  front-read f e h =
-      let g : ys ≡ tabulate f k = e ∙ ap (tabulate f) (length-take-le k array h) in
-      take-at ys (drop k array) k (ap length g ∙ length-tab f k) ∙ g
 
 -- the edition that a first line names is known
 pub edition-known : (t : List ℕ) → editionFault (headOf t .edition) ≡ 0
@@ -81,22 +58,22 @@ edition-known t =
     picked true x y p q = p
     picked false x y p q = q
 
-pub job-read : (t : List ℕ) (h : Head) (matrix w : List Float) (out : List ℕ) (r : ℕ) (out' : List ℕ) → matrix ≡ matrixOf t h → w ≡ weightsOf t h
-    → Wrote (jobText (h .rule) (sourceOf h) matrix (h .m) (h .n) w) out r out'
-    → Wrote (jobText (h .rule) (sourceOf h) (matrixOf t h) (h .m) (h .n) (weightsOf t h)) out r out'
-job-read t h matrix w out r out' e f g = rw (← e, ← f) g
+-- what a sheet of the form asks for, with what else is known of the buffer
+pub sheet-asks : {Room : Type 0} (t : List ℕ) (h : Head) (line : ℕ) → line ≡ wrongLine t → line ≡ 0 → h ≡ headOf t → Room
+    → (h .m ≤ 32) × (h .n ≤ 64) × (h .next ≤ 1000) × Room × (editionFault (h .edition) ≡ 0)
+sheet-asks t h line e z g room =
+    let s = sizes-of t h line e z g in
+    (s .columns, s .rows, omega (arith, s .starts), room, rw g (edition-known t))
 
-pub sheet-bad : (t : List ℕ) (line : ℕ) (out : List ℕ) (r : ℕ) (out' : List ℕ) → line ≡ wrongLine t → (line ≡ 0 → ⊥)
-    → WroteOn (noteText badWord line) 0 out r out' → 1342 ≤ length out
-    → Wrote (sheetAnswer t) out r out'
-unfolding sheetAnswer
-sheet-bad t line out r out' e h g room = rw (← e, ne-eqb line 0 h) (front-of g (omega (arith, length-note badWord line, width-most line)))
+-- a sheet with a wrong line and one of the form, whatever one of the form is answered with
+module _ (good : Head → List ℕ) (t : List ℕ) (line : ℕ) {out : List ℕ} {r : ℕ} {out' : List ℕ} (e : line ≡ wrongLine t) where
+  pub answered-bad : (line ≡ 0 → ⊥) → WroteOn (noteText badWord line) 0 out r out' → 1342 ≤ length out
+      → Wrote (pick (eqb (wrongLine t) 0) (good (headOf t)) (noteText badWord (wrongLine t))) out r out'
+  answered-bad h g room = rw (← e, ne-eqb line 0 h) (front-of g (omega (arith, length-note badWord line, width-most line)))
 
-pub sheet-good : (t : List ℕ) (line : ℕ) (h : Head) (out : List ℕ) (r : ℕ) (out' : List ℕ) → line ≡ wrongLine t → line ≡ 0 → h ≡ headOf t
-    → Wrote (jobText (h .rule) (sourceOf h) (matrixOf t h) (h .m) (h .n) (weightsOf t h)) out r out'
-    → Wrote (sheetAnswer t) out r out'
-unfolding sheetAnswer
-sheet-good t line h out r out' e z g w = rw (eq-eqb (wrongLine t) 0 (sym e ∙ z)) (rw g at w)
+  pub answered-good : (h : Head) → line ≡ 0 → h ≡ headOf t → Wrote (good h) out r out'
+      → Wrote (pick (eqb (wrongLine t) 0) (good (headOf t)) (noteText badWord (wrongLine t))) out r out'
+  answered-good h z g w = rw (eq-eqb (wrongLine t) 0 (sym e ∙ z)) (rw g at w)
 
 -- the text ends within the buffer
 pub wrote-room : (t out : List ℕ) (r : ℕ) (out' : List ℕ) → Wrote t out r out' → r ≤ length out'
@@ -118,15 +95,6 @@ does-fit t answer out r out' ys answer' w h e g =
 -- no second answer fits
 pub sole-answer : {t answer : List ℕ} {r s : ℕ} {one two : List ℕ} → Answered t answer r one → Answered t answer s two → (r ≡ s) × (one ≡ two)
 sole-answer p q = (p .says ∙ sym (q .says), p .writes ∙ sym (q .writes))
-
--- how long a job's answer can be
-pub length-answer : (s : Answer) (w : List Float) → length w ≤ 32 → length (answerText s w) ≤ 1342
-unfolding answerText
-length-answer s w h = go (eqb (s .number) 0)
-  where
-    go : (t : Bool) → length (pick t (okLine s ++ weightLines w (length w)) (noteText refusedWord (s .number))) ≤ 1342
-    go true = rw (length-append (okLine s) (weightLines w (length w))) (omega (arith, length-ok s, length-lines w (length w)))
-    go false = omega (arith, length-note refusedWord (s .number), width-most (s .number))
 
 length-returned : (matrix : List Float) (n : ℕ) (w : List Float) (source : SplitMix64) (rule : Rule) → length (returned matrix n w source rule .w) ≡ length w
 length-returned matrix n w source rule =

@@ -1,4 +1,2 @@
 -- The text that answers a sheet.
-pub mod Words
 pub mod Answer
-pub mod Steps

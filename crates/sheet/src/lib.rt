@@ -1,91 +1,13 @@
 // The sheet: from the bytes of a job to the bytes of its answer.
-mod answer;
-
-pub use crate::answer::put_answer;
-pub use crate::answer::put_last;
+use asking::answer_sheet;
 use fields::copy_bytes;
 use fields::put_note;
-use form::read_matrix;
-use form::read_weights;
 use form::wrong_line;
-use head::Head;
 use head::head_of;
-use rules::Rule;
-use sparsification::Job;
-use sparsification::thin;
-ghost use mathlib.Core.Path.{_≡_};
-ghost use Prim.Native.Nat.{_*_, _≤_};
+ghost use Prim.Native.Nat.{_≤_};
 ghost use lib.ListN.{length};
-ghost use Rattle.draw.specs.SplitMix.{seeded};
-ghost use Rattle.faults.specs.Faults.{editionFault};
-ghost use Rattle.form.specs.Reading.{weightsOf, matrixOf};
-ghost use Rattle.sheet.specs.Answer.{jobText, sourceOf, sheetAnswer, Answered};
-ghost use Rattle.sheet.specs.Steps.{Wrote};
-
-// Thins, and writes the answer.
-fn answer_job(
-    out: &mut [u8],
-    matrix: &[f64],
-    m: usize,
-    n: usize,
-    weights: &[f64],
-    seed: u64,
-    edition: u32,
-    rule: Rule,
-    output: &mut [f64],
-) -> usize
-    requires { ⌜ (m ≤ 32) × (n ≤ 64) × (length (now matrix) ≡ m * n) × (length (now weights) ≡ m) × (length (now output) ≡ m)
-        × (1342 ≤ length (now out)) × (editionFault edition ≡ 0) ⌝ }
-    ensures { λ r. ⌜ Wrote (jobText rule (seeded seed edition) (now (matrix .entry)) m n (now (weights .entry)))
-        (now (out .entry)) r (now (out .exit)) ⌝ }
-{
-    let mut numbers = [0.0f64; 4136];
-    let mut indices = [0u32; 776];
-    let job = Job {
-        seed,
-        edition,
-        rule,
-    };
-    let a = thin(
-        matrix,
-        m,
-        n,
-        weights,
-        job,
-        &mut output[..],
-        &mut numbers[..],
-        &mut indices[..],
-    );
-    put_answer(out, a, &output[..])
-}
-
-// Reads the columns of a sheet of the form, and answers its job.
-fn answer_sheet(out: &mut [u8], text: &[u8], head: Head) -> usize
-    requires { ⌜ (head .m ≤ 32) × (head .n ≤ 64) × (head .next ≤ 1000) × (1342 ≤ length (now out)) × (editionFault (head .edition) ≡ 0) ⌝ }
-    ensures { λ r. ⌜ Wrote (jobText (head .rule) (sourceOf head) (matrixOf (now (text .entry)) head) (head .m) (head .n)
-        (weightsOf (now (text .entry)) head)) (now (out .entry)) r (now (out .exit)) ⌝ }
-{
-    let m = head.m;
-    let n = head.n;
-    let rule = head.rule;
-    let size = m * n;
-    let mut matrix = [0.0f64; 2048];
-    let mut weights = [0.0f64; 32];
-    let mut output = [0.0f64; 32];
-    read_matrix(&mut matrix[..size], text, head.next, n);
-    read_weights(&mut weights[..m], text, head.next, n);
-    answer_job(
-        out,
-        &matrix[..size],
-        m,
-        n,
-        &weights[..m],
-        head.seed,
-        head.edition,
-        rule,
-        &mut output[..m],
-    )
-}
+ghost use Rattle.answering.specs.Steps.{Wrote};
+ghost use Rattle.sheet.specs.Answer.{sheetAnswer, Answered};
 
 // Writes the answer of a sheet in a buffer that is long enough for any.
 fn answer_text(out: &mut [u8], text: &[u8]) -> usize

@@ -27,9 +27,9 @@ use Rattle.sparsification.proofs.DemandThree.{Doubles, start-normal, start-few}
 use Rattle.sparsification.proofs.Finishing.{start-bounded}
 use Rattle.sorting.specs.Moved.{movedRows, changesAt}
 use Rattle.moving.specs.Answers.{lengthFault, rangeFault, movedFault, lentChanges}
-use Rattle.sheet.specs.Answer.{sheetFault}
-use Rattle.sheet.proofs.Jobs.{sheet-fault}
-use Rattle.words.specs.Words.{wordLines, wordsOf}
+use Rattle.asking.specs.Jobs.{sheetFault}
+use Rattle.asking.proofs.Jobs.{sheet-fault}
+use Rattle.listing.specs.Lines.{wordLines, wordsOf}
 
 module _ (rule : Rule) (source : SplitMix64) (matrix : List Float) (m n : ℕ) (w : List Float) (output numbers indices : ℕ) (doubles : Doubles w)
     (fine : jobFault rule (source .edition) matrix m n w output numbers indices ≡ 0) where

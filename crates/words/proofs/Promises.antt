@@ -23,11 +23,13 @@ use Rattle.form.specs.Form.{wrongLine}
 use Rattle.form.specs.Reading.{weightsOf, matrixOf}
 use Rattle.form.proofs.LongText.{long-text-is-wrong, first-bytes-same-line}
 use Rattle.salvaging.specs.Saved.{Laid}
-use Rattle.sheet.specs.Words.{badWord}
-use Rattle.sheet.specs.Answer.{sheetFault, jobText, sourceOf, sheetAnswer}
+use Rattle.answering.specs.Words.{badWord}
+use Rattle.asking.specs.Jobs.{sheetFault, jobText, sourceOf}
+use Rattle.sheet.specs.Answer.{sheetAnswer}
 use Rattle.sheet.proofs.Whole.{sizes-of, length-job}
-use Rattle.words.specs.Words.{wordsOf, movedText, movedAnswer}
-use Rattle.words.proofs.Listing.{shorter, length-words}
+use Rattle.listing.specs.Lines.{wordsOf}
+use Rattle.words.specs.Words.{movedText, movedAnswer}
+use Rattle.listing.proofs.Listing.{shorter, length-words}
 
 -- a text that is laid in a buffer ends within it
 pub stays-within : (t answer : List ℕ) (r : ℕ) (answer' : List ℕ) → Laid t answer r answer' → length answer' ≡ length answer → r ≤ length answer'

@@ -3,7 +3,7 @@ use borrow.Author.Tests.{eq-eqb, ne-eqb, eqb-true, le-leb, lt-leb}
 use Prim.Native.Nat.{ℕ, _+_, _*_, _≤_, _<_}
 use mathlib.Core.Path.{_≡_, refl, sym, ap, _∙_}
 use mathlib.Core.Bool.{Bool, true, false}
-use mathlib.Core.List.{List, [], _++_, append-nil}
+use mathlib.Core.List.{List, _++_, append-nil}
 use native.Mathlib.Omega.{arith}
 use lib.Dec.{eqb}
 use lib.ListN.{length, take, drop}
@@ -13,26 +13,20 @@ use Rattle.seq.specs.Sums.{plusZero}
 use Rattle.draw.specs.declared.SplitMix64.{SplitMix64}
 use Rattle.weights.specs.Weights.{normalized}
 use Rattle.rules.specs.declared.Rule.{Rule}
-use Rattle.fields.specs.Texts.{noteText}
 use Rattle.fields.specs.Steps.{WroteOn}
-use Rattle.fields.proofs.Widths.{width-most}
-use Rattle.fields.proofs.Puts.{length-note}
 use Rattle.sparsification.specs.declared.Answer.{Answer}
 use Rattle.faults.specs.Faults.{editionFault, jobFault}
 use Rattle.sparsification.specs.Answers.{refusal, answerOf, returned, Thinned}
-use Rattle.head.specs.declared.Head.{Head}
-use Rattle.head.specs.FirstLine.{headOf}
-use Rattle.form.specs.Form.{wrongLine}
-use Rattle.form.specs.Reading.{weightsOf, matrixOf}
 use Rattle.salvaging.specs.Saved.{Laid}
-use Rattle.sheet.specs.Words.{badWord}
-use Rattle.sheet.specs.Answer.{answerText, sheetFault, jobText, sourceOf}
-use Rattle.sheet.specs.Steps.{Wrote}
-use Rattle.sheet.proofs.Puts.{front-of, front-more}
-use Rattle.sheet.proofs.Jobs.{sheet-fault, job-wrote}
-use Rattle.sheet.proofs.Whole.{length-answer}
-use Rattle.words.specs.Words.{wordsOf, movedText, movedAnswer}
-use Rattle.words.proofs.Listing.{length-words}
+use Rattle.answering.specs.Answer.{answerText}
+use Rattle.asking.specs.Jobs.{sheetFault, jobText}
+use Rattle.answering.specs.Steps.{Wrote}
+use Rattle.answering.proofs.Puts.{front-more}
+use Rattle.asking.proofs.Jobs.{sheet-fault, job-wrote}
+use Rattle.answering.proofs.Lines.{length-answer}
+use Rattle.listing.specs.Lines.{wordsOf}
+use Rattle.words.specs.Words.{movedText}
+use Rattle.listing.proofs.Listing.{length-words}
 
 -- a job that is refused has no words, and one that is accepted those from the normalized weights to the ones returned
 module _ (rule : Rule) (source : SplitMix64) (matrix : List Float) (m n : ℕ) (w : List Float) where
@@ -91,21 +85,6 @@ module _ {rule : Rule} {source : SplitMix64} {matrix : List Float} {m n : ℕ} {
       accepted-moved rule source matrix m n w output' (sym number-is ∙ z) (t .writes ∙ rw (eq-eqb (s .number) 0 z))
       (job-wrote out a o known columns rows whole given left floats counts t e) q
       (omega (arith, answer-ends s output' e few, length-words matrix m n (normalized plusZero w) output' rows))
-
-pub job-read : (t : List ℕ) (h : Head) (matrix w : List Float) (out : List ℕ) (r : ℕ) (out' : List ℕ) → matrix ≡ matrixOf t h → w ≡ weightsOf t h
-    → Wrote (movedText (h .rule) (sourceOf h) matrix (h .m) (h .n) w) out r out'
-    → Wrote (movedText (h .rule) (sourceOf h) (matrixOf t h) (h .m) (h .n) (weightsOf t h)) out r out'
-job-read t h matrix w out r out' e f g = rw (← e, ← f) g
-
-pub sheet-bad : (t : List ℕ) (line : ℕ) (out : List ℕ) (r : ℕ) (out' : List ℕ) → line ≡ wrongLine t → (line ≡ 0 → ⊥)
-    → WroteOn (noteText badWord line) 0 out r out' → 4094 ≤ length out → Wrote (movedAnswer t) out r out'
-unfolding movedAnswer
-sheet-bad t line out r out' e h g room = rw (← e, ne-eqb line 0 h) (front-of g (omega (arith, length-note badWord line, width-most line)))
-
-pub sheet-good : (t : List ℕ) (line : ℕ) (h : Head) (out : List ℕ) (r : ℕ) (out' : List ℕ) → line ≡ wrongLine t → line ≡ 0 → h ≡ headOf t
-    → Wrote (movedText (h .rule) (sourceOf h) (matrixOf t h) (h .m) (h .n) (weightsOf t h)) out r out' → Wrote (movedAnswer t) out r out'
-unfolding movedAnswer
-sheet-good t line h out r out' e z g w = rw (eq-eqb (wrongLine t) 0 (sym e ∙ z)) (rw g at w)
 
 -- a text that does not fit, and one that does
 pub does-not-fit : (t answer out : List ℕ) (r : ℕ) (out' : List ℕ) → Wrote t out r out' → length answer < r → Laid t answer 0 answer

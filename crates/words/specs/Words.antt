@@ -1,43 +1,21 @@
--- The lines of the words that moved, and the text that answers a sheet with them.
-use Prim.Native.Nat.{ℕ, zero, suc}
-use mathlib.Core.List.{List, [], _∷_, _++_}
+-- The text that answers a sheet with the words that moved.
+use Prim.Native.Nat.{ℕ}
+use mathlib.Core.List.{List, [], _++_}
 use lib.Dec.{eqb}
-use lib.ListN.{getD}
-use lib.Ieee.{Float, binary64, toBits}
+use lib.Ieee.{Float}
 use Rattle.seq.specs.Choice.{pick}
-use Rattle.seq.specs.Sums.{at, plusZero}
+use Rattle.seq.specs.Sums.{plusZero}
 use Rattle.draw.specs.declared.SplitMix64.{SplitMix64}
-use Rattle.fields.specs.Bytes.{tab, newline}
-use Rattle.fields.specs.Texts.{bitsText, countText, noteText}
+use Rattle.fields.specs.Texts.{noteText}
 use Rattle.weights.specs.Weights.{normalized}
 use Rattle.rules.specs.declared.Rule.{Rule}
 use Rattle.sparsification.specs.Answers.{returned}
 use Rattle.head.specs.FirstLine.{headOf}
 use Rattle.form.specs.Form.{wrongLine}
 use Rattle.form.specs.Reading.{weightsOf, matrixOf}
-use Rattle.sorting.specs.Moved.{movedRows, changesAt}
-use Rattle.moving.specs.Answers.{movedFault, lentChanges}
-use Rattle.sheet.specs.Words.{badWord}
-use Rattle.sheet.specs.Answer.{sheetFault, jobText, sourceOf}
-
--- "word", which opens a word's line, with the tab that follows it
-abbrev pub wordWord : List ℕ
-wordWord = 119 ∷ 111 ∷ 114 ∷ 100 ∷ 9 ∷ []
-
--- the line of a row and its change
-abbrev pub wordLine : ℕ → Float → List ℕ
-wordLine row x = wordWord ++ (countText row ++ (tab ∷ (bitsText (toBits binary64 x) ++ (newline ∷ []))))
-
--- the lines of the first k of a list of rows, with their changes
-unfoldable pub wordLines : List ℕ → List Float → ℕ → List ℕ
-wordLines rows changes zero = []
-wordLines rows changes (suc k) = wordLines rows changes k ++ wordLine (getD rows k 0) (at changes k)
-
--- the lines of the list of which word moved, for every one of n rows in the list's order; none where the list is refused
-unfoldable pub wordsOf : List Float → ℕ → ℕ → List Float → List Float → List ℕ
-wordsOf matrix m n before after =
-    let rows : List ℕ = movedRows (lentChanges matrix m n before after) in
-    pick (eqb (movedFault matrix m n before after n n) 0) (wordLines rows (changesAt (lentChanges matrix m n before after) rows) n) []
+use Rattle.answering.specs.Words.{badWord}
+use Rattle.asking.specs.Jobs.{sheetFault, jobText, sourceOf}
+use Rattle.listing.specs.Lines.{wordsOf}
 
 -- the text that answers a job: that of `thin`, and where the job is accepted the words that moved from the normalized weights to those
 -- returned

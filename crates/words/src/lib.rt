@@ -1,7 +1,5 @@
 // Which word moved, of a sheet: from the bytes of a job to the bytes of its answer with a line for each word behind it.
-mod lines;
-
-use crate::lines::put_changes;
+use answering::put_answer;
 use fields::copy_bytes;
 use fields::put_note;
 use form::read_matrix;
@@ -9,45 +7,20 @@ use form::read_weights;
 use form::wrong_line;
 use head::Head;
 use head::head_of;
+use listing::put_moves;
 use rules::Rule;
-use seq::copy;
-use sheet::put_answer;
 use sparsification::Job;
 use sparsification::thin;
-use weights::normalize;
 ghost use mathlib.Core.Path.{_≡_};
-ghost use Prim.Native.Nat.{_+_, _*_, _≤_};
+ghost use Prim.Native.Nat.{_*_, _≤_};
 ghost use lib.ListN.{length};
-ghost use Rattle.seq.specs.Sums.{plusZero};
 ghost use Rattle.draw.specs.SplitMix.{seeded};
-ghost use Rattle.weights.specs.Weights.{normalized};
 ghost use Rattle.faults.specs.Faults.{editionFault};
 ghost use Rattle.form.specs.Reading.{weightsOf, matrixOf};
-ghost use Rattle.fields.specs.Steps.{WroteOn};
 ghost use Rattle.salvaging.specs.Saved.{Laid};
-ghost use Rattle.sheet.specs.Answer.{sourceOf};
-ghost use Rattle.sheet.specs.Steps.{Wrote};
-ghost use Rattle.words.specs.Words.{wordsOf, movedText, movedAnswer};
-
-// Writes the lines of the words that moved from the normalized weights to these.
-fn put_moves(
-    out: &mut [u8],
-    at: usize,
-    matrix: &[f64],
-    m: usize,
-    n: usize,
-    weights: &[f64],
-    after: &[f64],
-) -> usize
-    requires { ⌜ (m ≤ 32) × (n ≤ 64) × (length (now weights) ≡ m) × (at + 2752 ≤ length (now out)) ⌝ }
-    ensures { λ r. ⌜ WroteOn (wordsOf (now (matrix .entry)) m n (normalized plusZero (now (weights .entry))) (now (after .entry))) at
-        (now (out .entry)) r (now (out .exit)) ⌝ }
-{
-    let mut before = [0.0f64; 32];
-    copy(&mut before[..m], weights);
-    normalize(&mut before[..m]);
-    put_changes(out, at, matrix, m, n, &before[..m], after)
-}
+ghost use Rattle.answering.specs.Steps.{Wrote};
+ghost use Rattle.asking.specs.Jobs.{sourceOf};
+ghost use Rattle.words.specs.Words.{movedText, movedAnswer};
 
 // Thins, and writes the answer and, where the job is accepted, the words.
 fn answer_job(

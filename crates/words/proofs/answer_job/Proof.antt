@@ -8,9 +8,9 @@ use Rattle.words.proofs.answer_job.Statement.{statement}
 use Rattle.words.proofs.answer_job.Tie as tie
 use Rattle.words.proofs.answer_job.Reads as reads
 use Rattle.words.proofs.answer_job.Lts as lts
-use Rattle.sheet.proofs.put_answer.Reads as put-answer-reads
+use Rattle.answering.proofs.put_answer.Reads as put-answer-reads
 use Rattle.sparsification.proofs.thin.Reads as thin-reads
-use Rattle.words.proofs.put_moves.Reads as put-moves-reads
+use Rattle.listing.proofs.put_moves.Reads as put-moves-reads
 
 slice-aggregate-thin : tie.Need-slice-aggregate-thin
 slice-aggregate-thin c = search needs

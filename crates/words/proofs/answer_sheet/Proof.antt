@@ -1,14 +1,22 @@
 -- `words::answer_sheet` meets its contract: the fronts of the arrays hold the matrix and the weights that were read.
 use lib.Seq.{length-take-le}
 use native.Mathlib.Nat.{mul-le-mul-right}
-use Rattle.sheet.proofs.Whole.{few, front-most, front-there, front-whole, front-read}
-use Rattle.words.proofs.Whole.{job-read}
+use Rattle.asking.proofs.Arrays.{few, front-most, front-there, front-whole, front-read, job-read}
 use borrow.Author.Needs.{needs}
-use Prim.Native.Nat.{_-_}
+use Prim.Native.Nat.{ℕ}
+use mathlib.Core.List.{List}
 use mathlib.Core.Path.{sym}
 use native.Mathlib.Omega.{arith}
+use lib.Ieee.{Float}
+use Rattle.head.specs.declared.Head.{Head}
+use Rattle.asking.specs.Jobs.{sourceOf}
+use Rattle.words.specs.Words.{movedText}
 use Rattle.words.proofs.answer_sheet.Statement.{statement}
 use Rattle.words.proofs.answer_sheet.Tie as tie
+
+-- the text, of the matrix and the weights that were read
+abbrev textOf : Head → List Float → List Float → List ℕ
+textOf h matrix w = movedText (h .rule) (sourceOf h) matrix (h .m) (h .n) w
 
 mul-size : tie.Need-mul-size
 mul-size c = omega (arith, few _ _ (c .before .before .pre .0) (c .before .before .pre .1))
@@ -95,7 +103,7 @@ returns c =
     let at-read-weights = at-answer-job .before .before .before .before .before .before in
     let at-read-matrix = at-read-weights .before .before .before in
     let at-start = at-read-matrix .before .before .before .before in
-    job-read (at-start .args .text .now) (at-start .args .head) _ _ _ _ _
+    job-read (textOf (at-start .args .head)) (at-start .args .text .now) (at-start .args .head)
     (front-read _ _ _ _ (at-read-matrix .read-matrix .ensures) (omega (arith, few _ _ (at-start .pre .0) (at-start .pre .1))))
     (front-read _ _ _ _ (at-read-weights .read-weights .ensures) (omega (arith, at-start .pre .0)))
     (at-answer-job .answer-job .ensures)

@@ -1,0 +1,2 @@
+-- What the job of a sheet answers.
+pub mod Jobs

@@ -1,0 +1,2 @@
+-- The lines of the words that moved.
+pub mod Lines
