@@ -36,7 +36,7 @@ ghost use Rattle.voting.specs.Votes.{VotesThinned};
 ghost use Rattle.rules.specs.declared.Rule.the-variants.{Target, Within};
 ghost use Rattle.margins.specs.Answers.{changeAnswer, turnedAnswer};
 ghost use Rattle.sheet.specs.Answer.{Answered};
-ghost use Rattle.salvaging.specs.Lines.{noLines, after};
+ghost use Rattle.gathering.specs.Lines.{noLines, after};
 ghost use Rattle.salvaging.specs.Saved.{salvaged, Laid};
 ghost use Rattle.writing.specs.Writing.{WroteFor};
 ghost use Rattle.readback.specs.ReadingBack.{ReadBack};

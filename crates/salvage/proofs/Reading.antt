@@ -5,9 +5,9 @@ use mathlib.Core.List.{List}
 use native.Mathlib.Omega.{arith}
 use lib.ListN.{length}
 use Rattle.seq.specs.Lists.{repeated}
-use Rattle.salvaging.specs.Lines.{noLines, after}
-use Rattle.salvaging.specs.Steps.{Held, Took, startState}
-use Rattle.salvaging.specs.declared.State.{State}
+use Rattle.gathering.specs.Lines.{noLines, after}
+use Rattle.gathering.specs.Steps.{Held, Took, startState}
+use Rattle.gathering.specs.declared.State.{State}
 use Rattle.salvaging.proofs.Answers.{holding-start}
 
 -- after so many pieces of at most 65536 bytes, with the lengths as they were

@@ -1,14 +1,14 @@
 // salvage: reads a damaged sheet of any length from standard input and writes what is good of it to standard output. Whatever comes, it
 // holds the first line, at most 32 columns' lines, a mark for each, the number of lines and a piece of 64 KiB.
-use salvaging::State;
-use salvaging::feed;
+use gathering::State;
+use gathering::feed;
+use gathering::start;
 use salvaging::judged_of;
 use salvaging::put_front;
 use salvaging::put_losses;
-use salvaging::start;
 ghost use Prim.Native.Nat.{_+_, _≤_, _<_};
 ghost use lib.ListN.{length};
-ghost use Rattle.salvaging.specs.Steps.{Held};
+ghost use Rattle.gathering.specs.Steps.{Held};
 
 // Reads piece after piece, and holds what is to be held of each. After 2^46 pieces, which no machine reads, it stops.
 fn read_all(room: &mut [u8], marks: &mut [u8]) -> State

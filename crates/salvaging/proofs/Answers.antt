@@ -14,13 +14,15 @@ use Rattle.seq.specs.Lists.{repeated}
 use Rattle.seq.proofs.Filling.{length-tab, getD-tab}
 use Rattle.fields.specs.Steps.{WroteOn}
 use Rattle.head.specs.FirstLine.{headOf}
-use Rattle.salvaging.specs.Lines.{Lines, noLines, lineAt}
-use Rattle.salvaging.specs.Saved.{isFirst, kept, salvaged, Laid}
-use Rattle.salvaging.specs.Steps.{Holding, startState, noneIn, judgedIn, heldText}
-use Rattle.salvaging.specs.declared.State.{State}
+use Rattle.gathering.specs.Lines.{Lines, noLines, lineAt}
+use Rattle.gathering.specs.Kept.{isFirst, kept}
+use Rattle.salvaging.specs.Saved.{salvaged, Laid}
+use Rattle.gathering.specs.Steps.{Holding, startState}
+use Rattle.salvaging.specs.Steps.{noneIn, judgedIn, heldText}
+use Rattle.gathering.specs.declared.State.{State}
 use Rattle.salvaging.proofs.Fronts.{held-is-salvaged}
-use Rattle.salvaging.proofs.Indexed.{no-first, none-kept}
-use Rattle.salvaging.proofs.Bytewise.{count-none, text-none}
+use Rattle.gathering.proofs.Indexed.{no-first, none-kept}
+use Rattle.gathering.proofs.Bytewise.{count-none, text-none}
 
 -- a text that was put at the front is read from there
 pub front-text : (t out : List ℕ) (r : ℕ) (out' : List ℕ) → WroteOn t 0 out r out' → take r out' ≡ t

@@ -26,12 +26,14 @@ use Rattle.head.specs.Words.{thinWord}
 use Rattle.head.specs.FirstLine.{headOf}
 use Rattle.head.proofs.Good.{good-head, good-sizes}
 use Rattle.salvaging.specs.Words.{badWord}
-use Rattle.salvaging.specs.Lines.{Lines, lineAt, many}
-use Rattle.salvaging.specs.Saved.{isFirst, keptBy, kept, keptText, lostText, corrected, goodSheet, noneLeft, frontText, judged, salvaged}
-use Rattle.salvaging.specs.Steps.{most, Holding, linesIn, keptIn, Opened, noneIn, frontIn, judgedIn, heldText}
-use Rattle.salvaging.specs.declared.State.{State}
-use Rattle.salvaging.proofs.Bytewise.{reach}
-use Rattle.salvaging.proofs.Indexed.{no-line, nothing-kept, kept-is, kept-still}
+use Rattle.gathering.specs.Lines.{Lines, lineAt}
+use Rattle.salvaging.specs.Saved.{many, lostText, corrected, goodSheet, noneLeft, frontText, judged, salvaged}
+use Rattle.gathering.specs.Kept.{isFirst, keptBy, kept, keptText}
+use Rattle.gathering.specs.Steps.{most, Holding}
+use Rattle.salvaging.specs.Steps.{linesIn, keptIn, Opened, noneIn, frontIn, judgedIn, heldText}
+use Rattle.gathering.specs.declared.State.{State}
+use Rattle.gathering.proofs.Bytewise.{reach}
+use Rattle.gathering.proofs.Indexed.{no-line, nothing-kept, kept-is, kept-still}
 
 -- the back of a list, lent by its length
 pub back-is : (place : ℕ) (sheet : List ℕ) → take (length sheet - place) (drop place sheet) ≡ drop place sheet

@@ -1,9 +1,4 @@
--- Laws of what is saved: a line that is held in part, lines by their index, and what is held after a byte, a piece and a text.
-pub mod Firsts
-pub mod Cut
-pub mod Indexed
-pub mod Bytewise
-pub mod Parted
+-- Laws of what is saved: the lost lines, what stands before them, and the whole in a lent buffer.
 pub mod Losses
 pub mod Fronts
 pub mod Answers

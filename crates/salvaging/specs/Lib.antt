@@ -1,5 +1,4 @@
--- A damaged sheet by lines, and what is saved of it.
+-- What is saved of a damaged sheet.
 pub mod Words
-pub mod Lines
 pub mod Saved
 pub mod Steps

@@ -11,30 +11,13 @@ use Rattle.fields.specs.Fields.{countAt}
 use Rattle.fields.specs.Texts.{countText, noteText}
 use Rattle.head.specs.Words.{thinWord}
 use Rattle.head.specs.FirstLine.{headOf}
-use Rattle.form.specs.Form.{lineLong, isColumn}
 use Rattle.salvaging.specs.Words.{lostWord, badWord}
-use Rattle.salvaging.specs.Lines.{Lines, lineAt, many}
+use Rattle.gathering.specs.Lines.{Lines, lineAt}
+use Rattle.gathering.specs.Kept.{isFirst, kept, keptText}
 
--- a first line of the form, and nothing behind it
-unfoldable pub isFirst : List ℕ → Bool
-isFirst line = headOf line .ok && eqb (headOf line .next) (length line)
-
--- a column's line of the form with n entries, and nothing behind it
-unfoldable pub isLine : ℕ → List ℕ → Bool
-isLine n line = eqb (length line) (lineLong n) && isColumn line n 0
-
--- Line j is kept behind this first line: which is good, j is one of the m lines after it, and it is a column's.
-unfoldable pub keptBy : List ℕ → ℕ → List ℕ → Bool
-keptBy first j line = isFirst first && ((ltb 0 j && leb j (headOf first .m)) && isLine (headOf first .n) line)
-
--- line j of these is kept
-abbrev pub kept : Lines → ℕ → Bool
-kept s j = keptBy (lineAt s 0) j (lineAt s j)
-
--- the kept ones of the first k lines
-unfoldable pub keptText : (ℕ → Bool) → (ℕ → List ℕ) → ℕ → List ℕ
-keptText f line zero = []
-keptText f line (suc k) = let r : List ℕ = keptText f line k in pick (f k) (r ++ line k) r
+-- how many lines there are: a last piece without a newline counts
+abbrev pub many : Lines → ℕ
+many s = length (s .done) + pick (eqb (length (s .rest)) 0) 0 1
 
 -- the line of a line that is lost, with its number, from 1, and nothing for one that is kept
 abbrev pub lostLine : Bool → ℕ → List ℕ

@@ -22,10 +22,11 @@ use Rattle.form.proofs.OfForm.{head-read}
 use Rattle.form.proofs.Taken.{head-said, head-fits}
 use Rattle.form.proofs.Verdicts.{first-wrong}
 use Rattle.salvaging.specs.Words.{badWord}
-use Rattle.salvaging.specs.Lines.{Lines, noLines, more, after, lineAt, many}
-use Rattle.salvaging.specs.Saved.{isFirst, kept, lostText, goodSheet, noneLeft, frontText, judged, salvaged}
-use Rattle.salvaging.proofs.Indexed.{withLine, many-lines, line-before, no-line, no-first}
-use Rattle.salvaging.proofs.Parted.{pieces-are-the-whole}
+use Rattle.gathering.specs.Lines.{Lines, noLines, more, after, lineAt}
+use Rattle.salvaging.specs.Saved.{many, lostText, goodSheet, noneLeft, frontText, judged, salvaged}
+use Rattle.gathering.specs.Kept.{isFirst, kept}
+use Rattle.gathering.proofs.Indexed.{withLine, many-lines, line-before, no-line, no-first}
+use Rattle.gathering.proofs.Parted.{pieces-are-the-whole}
 use Rattle.saved.specs.Whole.{joined}
 use Rattle.saved.specs.Kept.{NoColumn}
 use Rattle.saved.proofs.Newlines.{lines-are-the-text, line-stands, line-more}

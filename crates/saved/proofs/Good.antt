@@ -27,9 +27,10 @@ use Rattle.form.specs.Sheets.{Sheet, wishText, editionText, firstLine, headText
 use Rattle.form.proofs.Segments.{Seg, seg-first, seg-rest, seg-byte, seg-count, seg-whole, whole-seg}
 use Rattle.form.proofs.OfForm.{of-the-form-is-taken}
 use Rattle.form.proofs.Taken.{head-said, head-fits, column-said}
-use Rattle.salvaging.specs.Lines.{Lines, noLines, after, lineAt, many}
-use Rattle.salvaging.specs.Saved.{isFirst, isLine, keptBy, kept, keptText, corrected, goodSheet}
-use Rattle.salvaging.proofs.Indexed.{no-line, nothing-kept, kept-is, first-sizes, count-few}
+use Rattle.gathering.specs.Lines.{Lines, noLines, after, lineAt}
+use Rattle.salvaging.specs.Saved.{many, corrected, goodSheet}
+use Rattle.gathering.specs.Kept.{isFirst, isLine, keptBy, kept, keptText}
+use Rattle.gathering.proofs.Indexed.{no-line, nothing-kept, kept-is, first-sizes, count-few}
 use Rattle.saved.specs.Kept.{keptPlace, keptLine, Stands, weightIn, entryIn, savedSheet}
 use Rattle.saved.proofs.Newlines.{lines-are-the-text, line-stands}
 

@@ -11,9 +11,9 @@ use lib.ListN.{length, take, drop}
 use lib.Seq.{split-at}
 use Rattle.seq.specs.Choice.{pick}
 use Rattle.fields.specs.Bytes.{newline}
-use Rattle.salvaging.specs.Lines.{Lines, noLines, more, after, lineAt}
-use Rattle.salvaging.proofs.Indexed.{withLine, many-lines, line-before, line-new}
-use Rattle.salvaging.proofs.Parted.{pieces-are-the-whole}
+use Rattle.gathering.specs.Lines.{Lines, noLines, more, after, lineAt}
+use Rattle.gathering.proofs.Indexed.{withLine, many-lines, line-before, line-new}
+use Rattle.gathering.proofs.Parted.{pieces-are-the-whole}
 use Rattle.saved.specs.Whole.{joined, newlines, Whole, LinesOf}
 
 pub joined-more : (lines : List (List ℕ)) (line : List ℕ) → joined (lines ++ (line ∷ [])) ≡ joined lines ++ line

@@ -16,9 +16,9 @@ use Rattle.rules.specs.declared.Cap.the-variants.{Absent, AtMost}
 use Rattle.head.specs.Words.{thinWord, targetWord, withinWord, secondEdition}
 use Rattle.form.specs.Form.{colWord}
 use Rattle.form.specs.Sheets.{Wish, target, within, Sheet, capText, wishText, editionText, headText, entriesText, columnText, columnsText, sheetText}
-use Rattle.salvaging.specs.Lines.{Lines, noLines, after}
-use Rattle.salvaging.proofs.Indexed.{withLine}
-use Rattle.salvaging.proofs.Parted.{pieces-are-the-whole}
+use Rattle.gathering.specs.Lines.{Lines, noLines, after}
+use Rattle.gathering.proofs.Indexed.{withLine}
+use Rattle.gathering.proofs.Parted.{pieces-are-the-whole}
 use Rattle.saved.specs.Whole.{newlines, Whole}
 use Rattle.saved.proofs.Newlines.{plain-two, line-more}
 

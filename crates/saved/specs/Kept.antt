@@ -9,8 +9,9 @@ use Rattle.fields.specs.Fields.{bitsAt}
 use Rattle.head.specs.FirstLine.{headOf}
 use Rattle.form.specs.Form.{wrongLine}
 use Rattle.form.specs.Sheets.{Sheet, sheetOf}
-use Rattle.salvaging.specs.Lines.{Lines, lineAt, many}
-use Rattle.salvaging.specs.Saved.{kept}
+use Rattle.gathering.specs.Lines.{Lines, lineAt}
+use Rattle.salvaging.specs.Saved.{many}
+use Rattle.gathering.specs.Kept.{kept}
 use Rattle.saved.specs.Whole.{joined}
 
 -- the place, from 0, of kept line k

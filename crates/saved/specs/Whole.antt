@@ -6,7 +6,7 @@ use lib.Dec.{eqb}
 use lib.ListN.{length}
 use Rattle.seq.specs.Choice.{pick}
 use Rattle.fields.specs.Bytes.{newline}
-use Rattle.salvaging.specs.Lines.{Lines, lineAt}
+use Rattle.gathering.specs.Lines.{Lines, lineAt}
 
 -- lines put together
 unfoldable pub joined : List (List ℕ) → List ℕ

@@ -2,7 +2,7 @@
 use borrow.Author.Needs.{needs}
 use Prim.Native.Nat.{_-_}
 use native.Mathlib.Omega.{arith}
-use Rattle.salvaging.proofs.Bytewise.{take-most}
+use Rattle.gathering.proofs.Bytewise.{take-most}
 use Rattle.salvage.proofs.Reading.{Reading, reading-start, reading-more}
 use Rattle.salvage.proofs.read_all.Statement.{statement}
 use Rattle.salvage.proofs.read_all.Tie as tie

@@ -4,7 +4,7 @@ use Prim.Native.Nat.{_-_}
 use mathlib.Core.Path.{sym}
 use native.Mathlib.Omega.{arith}
 use lib.Seq.{length-take-le}
-use Rattle.salvaging.proofs.Bytewise.{reach}
+use Rattle.gathering.proofs.Bytewise.{reach}
 use Rattle.salvaging.proofs.Fronts.{first-stands}
 use Rattle.salvaging.proofs.Answers.{front-room, judged-most}
 use Rattle.salvage.proofs.write_saved.Statement.{statement}

@@ -4,7 +4,7 @@ use lib.ListN.{length}
 use lib.Seq.{length-take-le}
 use Rattle.salvaging.specs.Saved.{lostText}
 use Rattle.salvaging.specs.Steps.{keptIn, frontIn, judgedIn}
-use Rattle.salvaging.proofs.Bytewise.{reach}
+use Rattle.gathering.proofs.Bytewise.{reach}
 use Rattle.salvaging.proofs.Fronts.{first-stands}
 use Rattle.salvaging.proofs.Answers.{front-room, judged-most, front-too-long, losses-too-long, copied-long, all-laid}
 use borrow.Author.Needs.{needs}

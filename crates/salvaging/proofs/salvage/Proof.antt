@@ -1,6 +1,6 @@
 -- `salvaging::salvage` meets its contract: the whole text is one piece.
-use Rattle.salvaging.specs.Lines.{noLines, after}
-use Rattle.salvaging.specs.declared.State.{State}
+use Rattle.gathering.specs.Lines.{noLines, after}
+use Rattle.gathering.specs.declared.State.{State}
 use Rattle.salvaging.proofs.Answers.{holding-start, salvage-is}
 use borrow.Author.Needs.{needs}
 use mathlib.Core.Path.{ap}

@@ -1,9 +1,9 @@
--- `salvaging::later_line` meets its contract: by whether the line is kept.
-use Rattle.salvaging.proofs.Parted.{among, later-kept, later-lost}
+-- `gathering::later_line` meets its contract: by whether the line is kept.
+use Rattle.gathering.proofs.Parted.{among, later-kept, later-lost}
 use borrow.Author.Needs.{needs}
 use native.Mathlib.Omega.{arith}
-use Rattle.salvaging.proofs.later_line.Statement.{statement}
-use Rattle.salvaging.proofs.later_line.Tie as tie
+use Rattle.gathering.proofs.later_line.Statement.{statement}
+use Rattle.gathering.proofs.later_line.Tie as tie
 
 is-line-requires : tie.Need-is-line-requires
 is-line-requires c κs = search needs

@@ -1,8 +1,8 @@
--- `salvaging::first_line` meets its contract: by what is read as a first line.
-use Rattle.salvaging.proofs.Firsts.{first-good, first-bad}
+-- `gathering::first_line` meets its contract: by what is read as a first line.
+use Rattle.gathering.proofs.Firsts.{first-good, first-bad}
 use borrow.Author.Needs.{needs}
-use Rattle.salvaging.proofs.first_line.Statement.{statement}
-use Rattle.salvaging.proofs.first_line.Tie as tie
+use Rattle.gathering.proofs.first_line.Statement.{statement}
+use Rattle.gathering.proofs.first_line.Tie as tie
 
 head-of-requires : tie.Need-head-of-requires
 head-of-requires c κs = search needs

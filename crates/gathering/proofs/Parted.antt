@@ -13,12 +13,12 @@ use Rattle.seq.specs.Choice.{pick}
 use Rattle.seq.specs.Lists.{part}
 use Rattle.seq.proofs.Choosing.{both}
 use Rattle.fields.specs.Bytes.{newline}
-use Rattle.salvaging.specs.Lines.{Lines, more, after}
-use Rattle.salvaging.specs.Saved.{isFirst, isLine}
-use Rattle.salvaging.specs.Steps.{most, firstState, keeps, laterState, Holding, Took}
-use Rattle.salvaging.specs.declared.State.{State}
-use Rattle.salvaging.proofs.Cut.{Stored, stored}
-use Rattle.salvaging.proofs.Bytewise.{take-most, reach, within-line, ends-first, ends-later}
+use Rattle.gathering.specs.Lines.{Lines, more, after}
+use Rattle.gathering.specs.Kept.{isFirst, isLine}
+use Rattle.gathering.specs.Steps.{most, firstState, keeps, laterState, Holding, Took}
+use Rattle.gathering.specs.declared.State.{State}
+use Rattle.gathering.proofs.Cut.{Stored, stored}
+use Rattle.gathering.proofs.Bytewise.{take-most, reach, within-line, ends-first, ends-later}
 
 -- Pieces of any lengths give what the whole text gives.
 pub pieces-are-the-whole : (s : Lines) (t u : List ℕ) → after s (t ++ u) ≡ after (after s t) u

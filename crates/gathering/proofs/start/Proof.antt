@@ -1,12 +1,12 @@
--- `salvaging::start` meets its contract: the loop fills the marks.
+-- `gathering::start` meets its contract: the loop fills the marks.
 use Rattle.seq.proofs.Filling.{Filled, start, turn, whole}
 use borrow.Author.Needs.{needs}
 use Prim.Native.Nat.{_-_}
 use mathlib.Core.Path.{refl}
 use native.Mathlib.Omega.{arith}
 use lib.ListN.{length}
-use Rattle.salvaging.proofs.start.Statement.{statement}
-use Rattle.salvaging.proofs.start.Tie as tie
+use Rattle.gathering.proofs.start.Statement.{statement}
+use Rattle.gathering.proofs.start.Tie as tie
 
 abbrev Inv-loop : tie.InvT-loop
 Inv-loop marks₀ i₀ marks i = Filled (λ j. 0) marks₀ i marks

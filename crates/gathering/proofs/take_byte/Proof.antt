@@ -1,16 +1,16 @@
--- `salvaging::take_byte` meets its contract: by whether the byte ends a line, and which.
+-- `gathering::take_byte` meets its contract: by whether the byte ends a line, and which.
 use lib.Seq.{length-take-le}
 use native.Mathlib.Nat.{add-sub-cancel-left}
 use Rattle.seq.specs.Lists.{part}
-use Rattle.salvaging.proofs.Bytewise.{reach}
-use Rattle.salvaging.proofs.Parted.{took-within, took-first, took-later, held-most, part-most}
+use Rattle.gathering.proofs.Bytewise.{reach}
+use Rattle.gathering.proofs.Parted.{took-within, took-first, took-later, held-most, part-most}
 use borrow.Author.Needs.{needs}
 use Prim.Native.Nat.{ℕ, _+_, _-_, _≤_}
 use mathlib.Core.Path.{sym, ap}
 use native.Mathlib.Omega.{arith}
 use lib.ListN.{length}
-use Rattle.salvaging.proofs.take_byte.Statement.{statement}
-use Rattle.salvaging.proofs.take_byte.Tie as tie
+use Rattle.gathering.proofs.take_byte.Statement.{statement}
+use Rattle.gathering.proofs.take_byte.Tie as tie
 
 hold-requires : tie.Need-hold-requires
 hold-requires c κs =

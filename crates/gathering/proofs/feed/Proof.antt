@@ -1,14 +1,14 @@
--- `salvaging::feed` meets its contract. The loop's invariant: what is held is what the bytes so far give.
-use Rattle.salvaging.specs.Lines.{after}
-use Rattle.salvaging.specs.Steps.{Took}
-use Rattle.salvaging.proofs.Parted.{took-none, took-next, took-whole, first-most}
+-- `gathering::feed` meets its contract. The loop's invariant: what is held is what the bytes so far give.
+use Rattle.gathering.specs.Lines.{after}
+use Rattle.gathering.specs.Steps.{Took}
+use Rattle.gathering.proofs.Parted.{took-none, took-next, took-whole, first-most}
 use borrow.Author.Needs.{needs}
 use Prim.Native.Nat.{_-_, _≤_}
 use mathlib.Core.Path.{_≡_, refl, _∙_}
 use native.Mathlib.Omega.{arith}
 use lib.ListN.{length, take}
-use Rattle.salvaging.proofs.feed.Statement.{statement}
-use Rattle.salvaging.proofs.feed.Tie as tie
+use Rattle.gathering.proofs.feed.Statement.{statement}
+use Rattle.gathering.proofs.feed.Tie as tie
 
 abbrev Inv-loop : tie.InvT-loop
 Inv-loop piece room₀ marks₀ now₀ i₀ room marks now i =

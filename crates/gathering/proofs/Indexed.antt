@@ -17,8 +17,8 @@ use Rattle.head.proofs.Good.{good-head, head-most}
 use Rattle.head.specs.Words.{thinWord}
 use Rattle.fields.proofs.Words.{spelled-at}
 use Rattle.form.specs.Form.{lineLong, isColumn}
-use Rattle.salvaging.specs.Lines.{Lines, lineAt}
-use Rattle.salvaging.specs.Saved.{isFirst, isLine, keptBy, keptText}
+use Rattle.gathering.specs.Lines.{Lines, lineAt}
+use Rattle.gathering.specs.Kept.{isFirst, isLine, keptBy, keptText}
 use borrow.Author.Tests.{ltb-true, leb-true}
 
 -- one whole line more

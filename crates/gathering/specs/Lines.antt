@@ -1,8 +1,8 @@
 -- A text by lines, whatever its bytes are.
-use Prim.Native.Nat.{ℕ, _+_}
+use Prim.Native.Nat.{ℕ}
 use mathlib.Core.List.{List, [], _∷_, _++_}
 use lib.Dec.{eqb}
-use lib.ListN.{length, getD}
+use lib.ListN.{getD}
 use Rattle.seq.specs.Choice.{pick}
 use Rattle.fields.specs.Bytes.{newline}
 
@@ -29,7 +29,3 @@ after s (b ∷ text) = after (more s b) text
 -- line j, from 0, with nothing in it where it is not there or not whole
 abbrev pub lineAt : Lines → ℕ → List ℕ
 lineAt s j = getD (s .done) j []
-
--- how many lines there are: a last piece without a newline counts
-abbrev pub many : Lines → ℕ
-many s = length (s .done) + pick (eqb (length (s .rest)) 0) 0 1

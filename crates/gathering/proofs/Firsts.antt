@@ -7,8 +7,8 @@ use lib.Dec.{eqb}
 use lib.ListN.{length}
 use Rattle.head.specs.FirstLine.{headOf}
 use Rattle.head.specs.declared.Head.{Head}
-use Rattle.salvaging.specs.Saved.{isFirst}
-use Rattle.salvaging.specs.Steps.{firstState}
+use Rattle.gathering.specs.Kept.{isFirst}
+use Rattle.gathering.specs.Steps.{firstState}
 
 test-is : (line : List ℕ) (h : Head) (b : Bool) → h ≡ headOf line → (h .ok && eqb (h .next) (length line)) ≡ b → isFirst line ≡ b
 unfolding isFirst

@@ -1,9 +1,9 @@
--- `salvaging::is_line` meets its contract: by its length and its fields.
+-- `gathering::is_line` meets its contract: by its length and its fields.
 use borrow.Author.Tests.{eq-eqb, ne-eqb}
-use Rattle.salvaging.specs.Saved.{isLine}
+use Rattle.gathering.specs.Kept.{isLine}
 use borrow.Author.Needs.{needs}
-use Rattle.salvaging.proofs.is_line.Statement.{statement}
-use Rattle.salvaging.proofs.is_line.Tie as tie
+use Rattle.gathering.proofs.is_line.Statement.{statement}
+use Rattle.gathering.proofs.is_line.Tie as tie
 
 mul-if1 : tie.Need-mul-if1
 mul-if1 c = search needs

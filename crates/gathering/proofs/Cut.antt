@@ -15,8 +15,8 @@ use Rattle.seq.specs.Lists.{part}
 use Rattle.head.specs.FirstLine.{headOf}
 use Rattle.head.proofs.Places.{head-next}
 use Rattle.form.specs.Form.{lineLong}
-use Rattle.salvaging.specs.Saved.{isFirst, isLine}
-use Rattle.salvaging.specs.Steps.{most}
+use Rattle.gathering.specs.Kept.{isFirst, isLine}
+use Rattle.gathering.specs.Steps.{most}
 
 and-false : (a : Bool) → (a && false) ≡ false
 and-false true = refl

@@ -19,13 +19,13 @@ use Rattle.fields.specs.Bytes.{newline}
 use Rattle.head.specs.FirstLine.{headOf}
 use Rattle.head.proofs.Places.{head-next}
 use Rattle.form.specs.Form.{lineLong, isColumn}
-use Rattle.salvaging.specs.Lines.{Lines, more, after, lineAt}
-use Rattle.salvaging.specs.Saved.{isFirst, keptBy, kept, keptText, isLine}
-use Rattle.salvaging.specs.Steps.{most, firstState, Holding, keeps, laterState}
-use Rattle.salvaging.specs.declared.State.{State}
-use Rattle.salvaging.proofs.Cut.{first-cut, first-whole, Stored, line-cut, line-whole}
-use Rattle.salvaging.proofs.Indexed.{withLine, many-lines, line-new, no-line, no-first, kept-is, first-sizes, none-kept}
-use Rattle.salvaging.proofs.Indexed.{first-not-kept, nothing-kept, count-few, kept-still, line-before, kept-same, kept-more}
+use Rattle.gathering.specs.Lines.{Lines, more, after, lineAt}
+use Rattle.gathering.specs.Kept.{isFirst, keptBy, kept, keptText, isLine}
+use Rattle.gathering.specs.Steps.{most, firstState, Holding, keeps, laterState}
+use Rattle.gathering.specs.declared.State.{State}
+use Rattle.gathering.proofs.Cut.{first-cut, first-whole, Stored, line-cut, line-whole}
+use Rattle.gathering.proofs.Indexed.{withLine, many-lines, line-new, no-line, no-first, kept-is, first-sizes, none-kept}
+use Rattle.gathering.proofs.Indexed.{first-not-kept, nothing-kept, count-few, kept-still, line-before, kept-same, kept-more}
 
 -- how far what is held reaches
 pub record Reach (h : State) (room : List ℕ) : Type 0 where

@@ -1,8 +1,8 @@
--- `salvaging::hold` meets its contract: by whether more of the line is held.
+-- `gathering::hold` meets its contract: by whether more of the line is held.
 use borrow.Author.Tests.{lt-ltb, le-ltb}
 use borrow.Author.Needs.{needs}
-use Rattle.salvaging.proofs.hold.Statement.{statement}
-use Rattle.salvaging.proofs.hold.Tie as tie
+use Rattle.gathering.proofs.hold.Statement.{statement}
+use Rattle.gathering.proofs.hold.Tie as tie
 
 add-room : tie.Need-add-room
 add-room c = search needs
