@@ -58,7 +58,7 @@ fn coloring_fault(
 }
 
 // Colours all m columns into x. The matrix is read as it is: every scale is 1.0.
-fn color_all(
+pub fn color_all(
     matrix: &[f64],
     bits: &[u8],
     m: usize,
@@ -92,7 +92,7 @@ fn color_all(
 }
 
 // 1 for a colour above 0, and -1 for one below.
-fn write_colours(output: &mut [i8], x: &[f64])
+pub fn write_colours(output: &mut [i8], x: &[f64])
     requires { ⌜ length (now output) ≡ length (now x) ⌝ }
     ensures { λ _. ⌜ now (output .exit) ≡ tabulate (colourAt (now (x .entry))) (length (now (x .entry))) ⌝ }
 {

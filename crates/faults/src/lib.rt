@@ -48,7 +48,7 @@ pub fn edition_fault(edition: u32) -> u64
 }
 
 // 5 and 6, of what is there at all and of the scratch.
-fn room_fault(m: usize, n: usize, numbers: usize, indices: usize) -> u64
+pub fn room_fault(m: usize, n: usize, numbers: usize, indices: usize) -> u64
     requires { ⌜ (m ≤ 256) × (n ≤ 4096) ⌝ }
     ensures { λ r. ⌜ r ≡ roomFault m n numbers indices ⌝ }
 {
@@ -93,7 +93,7 @@ pub fn size_fault(
 }
 
 // 8 and 9, of the weights.
-fn weight_fault(weights: &[f64]) -> u64
+pub fn weight_fault(weights: &[f64]) -> u64
     ensures { λ r. ⌜ r ≡ weightFault (now (weights .entry)) ⌝ }
 {
     if !all_finite(weights) {

@@ -1,4 +1,6 @@
 // The C interface: nothing but exported calls. include/knobthistle.h declares them.
+mod bits;
+
 use batch::Answers;
 use batch::thin_all;
 use discrepancy::Colored;

@@ -6,6 +6,7 @@ use lib.IntN.{pos}
 use lib.Dec.{eqb}
 use lib.ListN.{getD}
 use lib.Ieee.{Float, fin}
+use Rattle.seq.specs.Choice.{pick}
 use Rattle.seq.specs.Keep.{allTo}
 use Rattle.seq.specs.Lists.{tabulate}
 
@@ -33,6 +34,10 @@ votesOf bits n j i = voteAt bits (8 * (j * bytesOf n) + i)
 unfoldable pub spareClear : List ℕ → ℕ → ℕ → Bool
 spareClear bits m n =
     allTo (λ j. allTo (λ k. not (bitAt bits (8 * (j * bytesOf n) + n + k))) (8 * bytesOf n - n)) m
+
+-- 15 a spare bit set
+abbrev pub spareFault : List ℕ → ℕ → ℕ → ℕ
+spareFault bits m n = pick (spareClear bits m n) 0 15
 
 -- the doubles that m columns of n bits stand for, column after column
 unfoldable pub expanded : List ℕ → ℕ → ℕ → List Float

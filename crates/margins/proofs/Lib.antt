@@ -5,4 +5,5 @@ pub mod Refusals
 pub mod Nothing
 pub mod OldCount
 pub mod Unique
+pub mod SameEntries
 pub mod SmallCase

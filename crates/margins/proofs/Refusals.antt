@@ -20,7 +20,7 @@ use Rattle.margins.specs.declared.Change.{Change}
 use Rattle.margins.specs.declared.Turned.{Turned}
 
 -- a number that is 0 passed every test
-passed : (large whole first second : Bool) → _≡_ {A = ℕ} (pick large 3 (pick (not whole || (not first || not second)) 4 0)) 0
+pub passed : (large whole first second : Bool) → _≡_ {A = ℕ} (pick large 3 (pick (not whole || (not first || not second)) 4 0)) 0
     → (large ≡ false) × (whole ≡ true) × (first ≡ true) × (second ≡ true)
 passed true w f s e = absurd (omega arith)
 passed false false f s e = absurd (omega arith)

@@ -151,7 +151,7 @@ pub fn change_of(matrix: &[f64], bits: &[u8], n: usize, before: &[f64], after: &
 }
 
 // How many words turn.
-fn turned_of(
+pub fn turned_of(
     matrix: &[f64],
     bits: &[u8],
     n: usize,

@@ -22,12 +22,13 @@ use Rattle.rules.specs.Rules.{ruleFault}
 use Rattle.faults.specs.Faults.{editionFault, sizeFault, valueFault, jobFault}
 use Rattle.sparsification.specs.declared.Answer.{Answer}
 use Rattle.rules.specs.declared.Rule.{Rule}
+use Rattle.seq.proofs.Every.{every-at}
 use Rattle.seq.proofs.Choosing.{neither, both, never, shown}
 use Rattle.draw.specs.declared.SplitMix64.{SplitMix64}
 use Rattle.faults.proofs.Whole.{no-fault}
 
 -- a refusal's number is not 0
-answered : (fault : ℕ) (a : Answer) → pick (eqb fault 0) a (refusal fault) .number ≡ 0 → fault ≡ 0
+pub answered : (fault : ℕ) (a : Answer) → pick (eqb fault 0) a (refusal fault) .number ≡ 0 → fault ≡ 0
 answered zero a h = refl
 answered (suc fault) a h = absurd (let g : suc fault ≡ 0 = rw (eqb·suc-zero fault) at h in omega arith)
 
@@ -57,18 +58,6 @@ module _ {rule : Rule} {source : SplitMix64} {matrix : List Float} {m n : ℕ} {
   pub output-stage : r .number ≡ 0 → output' ≡ returned matrix n w source rule .w
   output-stage h = job .writes ∙ rw h
 
--- every one passes
-pub every : (f : ℕ → Bool) (k : ℕ) → allTo f k ≡ true → (j : ℕ) → j < k → f j ≡ true
-unfolding allTo
-every f zero h j l = absurd (omega arith)
-every f (suc k) h j l =
-    let b = both (allTo f k) (f k) h in
-    go (decLt j k) (b .0) (b .1) (every f k)
-  where
-    go : Dec (j < k) → allTo f k ≡ true → f k ≡ true → (allTo f k ≡ true → (j : ℕ) → j < k → f j ≡ true) → f j ≡ true
-    go (yes g) a b r = r a j g
-    go (no g) a b r = let e : j ≡ k = omega arith in rw e b
-
 -- the values of an accepted job
 pub record Valued (matrix w : List Float) : Type 0 where
   pub entries : bounded one matrix ≡ true
@@ -79,7 +68,7 @@ pub values-good : (matrix w : List Float) → valueFault matrix w ≡ 0 → Valu
 unfolding valueFault
 values-good matrix w h =
     let a = go (bounded one matrix) (allTo (λ j. finite (at w j)) (length w)) (sound (l1Of plusZero w)) h in
-    record { entries = a .0; ends = λ j l. shown (finite (at w j)) (every (λ j. finite (at w j)) (length w) (a .1 .0) j l); total = a .1 .1 }
+    record { entries = a .0; ends = λ j l. shown (finite (at w j)) (every-at (λ j. finite (at w j)) (length w) j (a .1 .0) l); total = a .1 .1 }
   where
     go : (a b c : Bool) → _≡_ {A = ℕ} (pick a (pick b (pick c 0 9) 8) 7) 0 → (a ≡ true) × ((b ≡ true) × (c ≡ true))
     go true true true h = (refl, (refl, refl))

@@ -20,7 +20,8 @@ use Rattle.seq.specs.Keep.{allTo}
 use Rattle.ieee.specs.Constants.{one}
 use Rattle.weights.specs.Weights.{normalized}
 use Rattle.halve.specs.Handed.{Ready}
-use Rattle.seq.proofs.Choosing.{holds, both-hold}
+use Rattle.seq.proofs.Every.{every-holds}
+use Rattle.seq.proofs.Choosing.{holds}
 use Rattle.stages.specs.Stages.{stageOf, movedBy}
 use Rattle.stages.specs.Stopping.{entriesAt, stopOf, passesTo}
 use Rattle.stages.specs.Paths.{Noted, Followed}
@@ -83,15 +84,9 @@ module _ (rule : Rule) (source : SplitMix64) (matrix : List Float) (m n : ℕ) (
         words = p .words ∙ sym (rw (p .answers));
       }
 
--- what passes each passes all
-all-hold : (f : ℕ → Bool) (k : ℕ) → ((j : ℕ) → j < k → f j ≡ true) → allTo f k ≡ true
-unfolding allTo
-all-hold f zero h = refl
-all-hold f (suc k) h = both-hold (allTo f k) (f k) (all-hold f k (λ j l. h j (omega arith))) (h k (omega arith))
-
 -- the normalized weights of an accepted job are at most 1 in magnitude
 pub start-bounded : (w : List Float) (k : ℕ) → Normal binary64 k (at w) → length w ≡ k → bounded one w ≡ true
-start-bounded w k normal e = all-hold (λ j. le (absOf (at w j)) one) (length w)
+start-bounded w k normal e = every-holds (λ j. le (absOf (at w j)) one) (length w)
     (λ j l. ap (le (absOf (at w j))) unit-is ∙ holds (le (absOf (at w j)) unit) (normal-le normal j (rw e at l)))
 
 -- the sizes of an accepted job are those that a pass asks for

@@ -5,3 +5,5 @@ pub mod Following
 pub mod Passing
 pub mod Totals
 pub mod Drawing
+pub mod SameStages
+pub mod SameMatrix

@@ -19,6 +19,7 @@ use Rattle.draw.specs.declared.SplitMix64.{SplitMix64}
 use Rattle.turning.proofs.Signed.{Facing, facing, add-facing, mul-facing, pick-facing, zero-facing, maxAbs-same}
 use Rattle.turning.proofs.Passes.{sound-same, Start, plus-start, minus-start, pass-same}
 use Rattle.stages.specs.Stages.{stageOf, movedBy}
+use Rattle.stages.proofs.SameStages as sameStages
 use Rattle.rules.specs.Rules.{meets}
 use Rattle.stages.specs.Stopping.{rests, exceeds, stops, firstStop, stopOf, passesTo}
 use Rattle.rules.specs.declared.Rule.{Rule}
@@ -54,28 +55,11 @@ module _ {z : Float} (zero-start : Start z) (turns : ℕ → Bool) (matrix matri
   moved-same i =
       ap (movedBy matrix n start) (stage-same i) ∙ change-same turns matrix matrix' same (length start) n start (stageOf plusZero matrix' n start source i .w)
 
-  rests-same : (rule : Rule) (i : ℕ) → rests z matrix n start source rule i ≡ rests plusZero matrix' n start source rule i
-  rests-same (Target t) i = ap (λ (s : Halved). leb (nonzeros (s .w)) t) (stage-same i)
-  rests-same (Within allowance cap) i =
-      λ j. leb (nonzeros (stage-same i j .w)) 1 || (ltb 0 i && (not (le (moved-same i j) allowance) && meets cap (nonzeros (stage-same i j .w))))
-
-  exceeds-same : (rule : Rule) (i : ℕ) → exceeds z matrix n start source rule i ≡ exceeds plusZero matrix' n start source rule i
-  exceeds-same (Target t) i = refl
-  exceeds-same (Within allowance cap) i = λ j. meets cap (nonzeros (stage-same i j .w)) && not (le (moved-same (suc i) j) allowance)
-
-  stops-same : (rule : Rule) (i : ℕ) → stops z matrix n start source rule i ≡ stops plusZero matrix' n start source rule i
-  stops-same rule i = λ j. rests-same rule i j || exceeds-same rule i j
-
-  first-same : (rule : Rule) (k i : ℕ) → firstStop z matrix n start source rule k i ≡ firstStop plusZero matrix' n start source rule k i
-  unfolding firstStop
-  first-same rule zero i = refl
-  first-same rule (suc k) i = λ j. pick (stops-same rule i j) i (first-same rule k (suc i) j)
-
   pub stop-same : (rule : Rule) → stopOf z matrix n start source rule ≡ stopOf plusZero matrix' n start source rule
-  stop-same rule = first-same rule (length start) 0
+  stop-same = sameStages.stop-same z plusZero matrix matrix' n start source stage-same moved-same
 
   pub passes-same : (rule : Rule) (i : ℕ) → passesTo z matrix n start source rule i ≡ passesTo plusZero matrix' n start source rule i
-  passes-same rule i = ap (λ (t : Bool). pick t i (suc i)) (rests-same rule i)
+  passes-same = sameStages.passes-same z plusZero matrix matrix' n start source stage-same moved-same
 
 -- ---- from the weights as they are given: sums from -0.0 and from +0.0, on one matrix
 

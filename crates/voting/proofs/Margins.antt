@@ -23,7 +23,7 @@ use Rattle.stages.specs.Stopping.{passesTo}
 use Rattle.draw.specs.declared.SplitMix64.{SplitMix64}
 use Rattle.rules.specs.declared.Rule.{Rule}
 use Rattle.sparsification.specs.Answers.{answerAt, answerOf, stopFor, returned}
-use Rattle.sparsification.proofs.Accepting.{every}
+use Rattle.seq.proofs.Every.{every-at}
 use Rattle.turning.proofs.Signed.{Facing, facing, nan-facing, mul-facing}
 use Rattle.turning.proofs.Passes.{plus-start}
 use Rattle.turning.proofs.Stages.{stage-same, moved-same, stop-same, passes-same}
@@ -59,7 +59,7 @@ module _ (labels : List ℤ) (n : ℕ) (confidences : List Float) (good : allLab
   turns i = isMinus (getD labels (i % n) (pos 0))
 
   label-good : (i : ℕ) → isLabel (getD labels (i % n) (pos 0)) ≡ true
-  label-good i = every (λ i. isLabel (getD labels i (pos 0))) (length labels) good (i % n) (rw rows (mod-lt i some))
+  label-good i = every-at (λ i. isLabel (getD labels i (pos 0))) (length labels) (i % n) good (rw rows (mod-lt i some))
 
   -- the label of an entry is that of its row
   row-of : (j i : ℕ) → getD labels ((j * n + i) % n) (pos 0) ≡ getD labels (i % n) (pos 0)

@@ -1,0 +1,176 @@
+// The calls on a matrix of votes, one bit a margin, as C sees them.
+use ballots::sparsify_bits;
+use ballots::sparsify_within_bits;
+use ballots::thin_bits;
+use discrepancy::Colored;
+use faults::named_rule;
+use polls::discrepancy_coloring_bits;
+use polls::max_margin_change_bits;
+use polls::turned_words_bits;
+use sparsification::Answer;
+use sparsification::Job;
+ghost use mathlib.Core.Path.{_≡_};
+ghost use Rattle.draw.specs.SplitMix.{seeded};
+ghost use Rattle.faults.specs.Faults.{ruleNamed};
+ghost use Rattle.rules.specs.declared.Rule.the-variants.{Target, Within};
+ghost use Rattle.ballots.specs.Ballots.{BitsThinned};
+ghost use Rattle.polls.specs.Polls.{BitsColored, bitsChange, bitsTurned};
+ghost use Rattle.knobthistle.specs.Caps.{capOf};
+
+// The largest change of a margin, written to `change`; the number.
+#[no_mangle]
+pub extern "C" fn knob_max_margin_change_bits(
+    bits: &[u8],
+    m: usize,
+    n: usize,
+    before: &[f64],
+    after: &[f64],
+    change: &mut f64,
+) -> u64
+    ensures { λ r. ⌜ (r ≡ bitsChange (now (bits .entry)) m n (now (before .entry)) (now (after .entry)) .number)
+        × (now (change .exit) ≡ bitsChange (now (bits .entry)) m n (now (before .entry)) (now (after .entry)) .change) ⌝ }
+{
+    let a = max_margin_change_bits(bits, m, n, before, after);
+    *change = a.change;
+    a.number
+}
+
+// How many words turn at their thresholds, written to `count`; the number.
+#[no_mangle]
+pub extern "C" fn knob_turned_words_bits(
+    bits: &[u8],
+    m: usize,
+    n: usize,
+    before: &[f64],
+    after: &[f64],
+    thresholds: &[f64],
+    count: &mut u64,
+) -> u64
+    ensures { λ r. ⌜ (r ≡ bitsTurned (now (bits .entry)) m n (now (before .entry)) (now (after .entry)) (now (thresholds .entry)) .number)
+        × (now (count .exit) ≡ bitsTurned (now (bits .entry)) m n (now (before .entry)) (now (after .entry))
+        (now (thresholds .entry)) .count) ⌝ }
+{
+    let a = turned_words_bits(bits, m, n, before, after, thresholds);
+    *count = a.count;
+    a.number
+}
+
+// Colours the columns of a matrix of votes.
+#[no_mangle]
+pub extern "C" fn knob_discrepancy_coloring_bits(
+    bits: &[u8],
+    m: usize,
+    n: usize,
+    seed: u64,
+    output: &mut [i8],
+    numbers: &mut [f64],
+    indices: &mut [u32],
+) -> Colored
+    ensures { λ r. ⌜ BitsColored (now (bits .entry)) m n seed (now (output .entry)) (now (numbers .entry))
+        (now (indices .entry)) r (now (output .exit)) (now (numbers .exit)) (now (indices .exit)) ⌝ }
+{
+    discrepancy_coloring_bits(bits, m, n, seed, output, numbers, indices)
+}
+
+// Thins to at most `target` nonzero entries.
+#[no_mangle]
+pub extern "C" fn knob_sparsify_bits(
+    bits: &[u8],
+    m: usize,
+    n: usize,
+    weights: &[f64],
+    seed: u64,
+    edition: u32,
+    target: usize,
+    output: &mut [f64],
+    numbers: &mut [f64],
+    indices: &mut [u32],
+) -> Answer
+    ensures { λ r. ⌜ BitsThinned (Target target) (seeded seed edition) (now (bits .entry)) m n (now (weights .entry))
+        (now (output .entry)) (now (numbers .entry)) (now (indices .entry)) r (now (output .exit)) (now (numbers .exit))
+        (now (indices .exit)) ⌝ }
+{
+    sparsify_bits(
+        bits,
+        m,
+        n,
+        weights,
+        seed,
+        edition,
+        target,
+        output,
+        numbers,
+        indices,
+    )
+}
+
+// Thins within an allowance, and as far as the cap asks.
+#[no_mangle]
+pub extern "C" fn knob_sparsify_within_bits(
+    bits: &[u8],
+    m: usize,
+    n: usize,
+    weights: &[f64],
+    seed: u64,
+    edition: u32,
+    allowance: f64,
+    capped: u32,
+    cap: usize,
+    output: &mut [f64],
+    numbers: &mut [f64],
+    indices: &mut [u32],
+) -> Answer
+    ensures { λ r. ⌜ BitsThinned (Within allowance (capOf capped cap)) (seeded seed edition) (now (bits .entry)) m n
+        (now (weights .entry)) (now (output .entry)) (now (numbers .entry)) (now (indices .entry)) r (now (output .exit))
+        (now (numbers .exit)) (now (indices .exit)) ⌝ }
+{
+    sparsify_within_bits(
+        bits,
+        m,
+        n,
+        weights,
+        seed,
+        edition,
+        allowance,
+        crate::cap_of(capped, cap),
+        output,
+        numbers,
+        indices,
+    )
+}
+
+// Thins by the rule that a number names.
+#[no_mangle]
+pub extern "C" fn knob_thin_bits(
+    bits: &[u8],
+    m: usize,
+    n: usize,
+    weights: &[f64],
+    seed: u64,
+    edition: u32,
+    rule: u32,
+    allowance: f64,
+    limit: usize,
+    output: &mut [f64],
+    numbers: &mut [f64],
+    indices: &mut [u32],
+) -> Answer
+    ensures { λ r. ⌜ BitsThinned (ruleNamed rule allowance limit) (seeded seed edition) (now (bits .entry)) m n (now (weights .entry))
+        (now (output .entry)) (now (numbers .entry)) (now (indices .entry)) r (now (output .exit)) (now (numbers .exit))
+        (now (indices .exit)) ⌝ }
+{
+    thin_bits(
+        bits,
+        m,
+        n,
+        weights,
+        Job {
+            seed,
+            edition,
+            rule: named_rule(rule, allowance, limit),
+        },
+        output,
+        numbers,
+        indices,
+    )
+}
