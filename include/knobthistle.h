@@ -68,7 +68,8 @@ double knob_cos_draw_2(uint64_t word); /* by edition 2 */
    An accepted call leaves all of both zero, whatever their length. Matrix and weights are never changed.
 
    Each call answers a number: 0 accepted, else the first below that applies and that the call uses (enum knob_number has names).
-   The order is that of the tests: 12 stands between 1 and 2, 13 between 2 and 3, and 14 between 6 and 7.
+   The order is that of the tests: 12 stands between 1 and 2, 13 between 2 and 3, and 14 between 6 and 7; 15 stands in the place of 7 and of
+   11, and where there is neither of them directly after 4.
 
      no.  given exactly when                                                      sparsify  within  coloring  change, turned
       1   the allowance is negative or a NaN (-0.0 is accepted)                                x
@@ -81,6 +82,7 @@ double knob_cos_draw_2(uint64_t word); /* by edition 2 */
       5   m = 0 or n = 0                                                             x         x
       6   a scratch is too short                                                     x         x        x
      14   a label is neither 1 nor -1: knob_thin_votes alone, which says what else it refuses
+     15   a spare bit is set: the calls on votes as bits alone, which say what else they refuse
       7   a matrix entry is not in [-1, 1]; a NaN is not                             x         x
       8   a weight is not finite                                                     x         x
       9   the sum of the weights' magnitudes, in doubles, is 0 or infinite           x         x
@@ -112,6 +114,7 @@ enum knob_number {
     KNOB_REFUSED_INFINITE_ALLOWANCE = 12,
     KNOB_REFUSED_EDITION = 13,
     KNOB_REFUSED_LABEL = 14,
+    KNOB_REFUSED_SPARE_BIT = 15,
     KNOB_REFUSED_BUFFER = 16
 };
 
@@ -227,6 +230,66 @@ uint64_t knob_turned_words(const double *matrix, size_t matrix_length, size_t m,
                            const double *before, size_t before_length, const double *after, size_t after_length,
                            const double *thresholds, size_t thresholds_length, uint64_t *count);
 
+/* ---- Votes as bits ----
+
+   A matrix whose entries are all 1 or -1 may come as one bit an entry, set for -1. A column of n rows is KNOB_BYTES(n) bytes, row 0 the lowest
+   bit of the first: entry (row i, column j) is -1 where (bits[j*KNOB_BYTES(n) + i/8] >> (i%8)) & 1 is 1, and else 1. The bits of a column's
+   last byte that stand for no row are spare, and must be 0. The bits are read where they stand: no copy of them in doubles is made.
+
+   Of the six calls below five are those above with _bits behind their names. Each answers, writes and leaves exactly what that one does for
+   the matrix of doubles that the bits stand for, and wants as much scratch. Only the refusals differ: 4 measures bytes, of which there must
+   be m*KNOB_BYTES(n), and 15, a spare bit set, is given where the other call gives 7 or 11, and else directly after 4. The order is
+
+     thinning           1, 12, 2, 13, 3, 4, 5, 6, 15, 8, 9
+     colouring          3, 4, 6, 15
+     change             3, 4, 15
+     turned words       3, 4, 15, 8 */
+#define KNOB_BYTES(n) (((size_t)(n) + 7) / 8)
+
+/* knob_sparsify on bits. */
+#if !defined(__aarch64__) /* there, see the end */
+knob_answer knob_sparsify_bits(const uint8_t *bits, size_t bits_length, size_t m, size_t n,
+                               const double *weights, size_t weights_length, uint64_t seed, uint32_t edition, size_t target,
+                               double *output, size_t output_length,
+                               double *numbers, size_t numbers_length, uint32_t *indices, size_t indices_length);
+#endif
+
+/* knob_sparsify_within on bits. */
+#if !defined(__aarch64__) /* there, see the end */
+knob_answer knob_sparsify_within_bits(const uint8_t *bits, size_t bits_length, size_t m, size_t n,
+                                      const double *weights, size_t weights_length, uint64_t seed, uint32_t edition,
+                                      double allowance, uint32_t capped, size_t cap,
+                                      double *output, size_t output_length,
+                                      double *numbers, size_t numbers_length, uint32_t *indices, size_t indices_length);
+#endif
+
+/* Both in one: the rule is named by a number, 0 for a target, 1 for an allowance without a cap, 2 for an allowance with a cap; limit is the
+   target or the cap, and what a rule does not use is not looked at. Another number is refused by 2. */
+#if !defined(__aarch64__) /* there, see the end */
+knob_answer knob_thin_bits(const uint8_t *bits, size_t bits_length, size_t m, size_t n,
+                           const double *weights, size_t weights_length, uint64_t seed, uint32_t edition,
+                           uint32_t rule, double allowance, size_t limit,
+                           double *output, size_t output_length,
+                           double *numbers, size_t numbers_length, uint32_t *indices, size_t indices_length);
+#endif
+
+/* knob_discrepancy_coloring on bits. No columns or no rows are fine. */
+#if !defined(__aarch64__) /* there, see the end */
+knob_colored knob_discrepancy_coloring_bits(const uint8_t *bits, size_t bits_length, size_t m, size_t n, uint64_t seed,
+                                            int8_t *output, size_t output_length,
+                                            double *numbers, size_t numbers_length, uint32_t *indices, size_t indices_length);
+#endif
+
+/* knob_max_margin_change on bits. Weights may be any doubles; *change is 0 on a refusal. */
+uint64_t knob_max_margin_change_bits(const uint8_t *bits, size_t bits_length, size_t m, size_t n,
+                                     const double *before, size_t before_length, const double *after, size_t after_length,
+                                     double *change);
+
+/* knob_turned_words on bits. Weights may be any doubles; *count is 0 on a refusal. */
+uint64_t knob_turned_words_bits(const uint8_t *bits, size_t bits_length, size_t m, size_t n,
+                                const double *before, size_t before_length, const double *after, size_t after_length,
+                                const double *thresholds, size_t thresholds_length, uint64_t *count);
+
 /* The answer of a sheet: text bytes in, answer bytes out. The first line of a sheet is `thin`, m (at most 32), n (at most 64), the seed,
    and then `target` and a count, or `within`, an allowance, and a cap or `-`, and for edition 2 a last field `2`; then there is a
    line for each column: `col`, its weight and its n entries. Fields are parted by single tabs, every line ends in a newline,
@@ -287,7 +350,7 @@ size_t knob_moved_sheet(const uint8_t *text, size_t text_length, uint8_t *answer
 
 #if defined(__aarch64__)
 /* On Arm the archive's calls write a record through an address, their first parameter, which is not how C returns one there. So the
-   five are declared as they are, and each name then stands for a function of the form above. */
+   nine are declared as they are, and each name then stands for a function of the form above. */
 knob_colored *knob_discrepancy_coloring(knob_colored *answer, const double *matrix, size_t matrix_length, size_t m, size_t n, uint64_t seed,
                                         int8_t *output, size_t output_length,
                                         double *numbers, size_t numbers_length, uint32_t *indices, size_t indices_length);
@@ -314,6 +377,27 @@ knob_answer *knob_thin_votes(knob_answer *answer, const double *confidences, siz
                              uint32_t rule, double allowance, size_t limit,
                              uint32_t *columns, size_t columns_length, double *kept, size_t kept_length,
                              double *numbers, size_t numbers_length, uint32_t *indices, size_t indices_length);
+
+knob_answer *knob_sparsify_bits(knob_answer *answer, const uint8_t *bits, size_t bits_length, size_t m, size_t n,
+                                const double *weights, size_t weights_length, uint64_t seed, uint32_t edition, size_t target,
+                                double *output, size_t output_length,
+                                double *numbers, size_t numbers_length, uint32_t *indices, size_t indices_length);
+
+knob_answer *knob_sparsify_within_bits(knob_answer *answer, const uint8_t *bits, size_t bits_length, size_t m, size_t n,
+                                       const double *weights, size_t weights_length, uint64_t seed, uint32_t edition,
+                                       double allowance, uint32_t capped, size_t cap,
+                                       double *output, size_t output_length,
+                                       double *numbers, size_t numbers_length, uint32_t *indices, size_t indices_length);
+
+knob_answer *knob_thin_bits(knob_answer *answer, const uint8_t *bits, size_t bits_length, size_t m, size_t n,
+                            const double *weights, size_t weights_length, uint64_t seed, uint32_t edition,
+                            uint32_t rule, double allowance, size_t limit,
+                            double *output, size_t output_length,
+                            double *numbers, size_t numbers_length, uint32_t *indices, size_t indices_length);
+
+knob_colored *knob_discrepancy_coloring_bits(knob_colored *answer, const uint8_t *bits, size_t bits_length, size_t m, size_t n, uint64_t seed,
+                                             int8_t *output, size_t output_length,
+                                             double *numbers, size_t numbers_length, uint32_t *indices, size_t indices_length);
 
 static inline knob_colored knob_discrepancy_coloring_returned(const double *matrix, size_t matrix_length, size_t m, size_t n, uint64_t seed,
                                                               int8_t *output, size_t output_length,
@@ -369,11 +453,54 @@ static inline knob_answer knob_thin_votes_returned(const double *confidences, si
                             indices, indices_length);
 }
 
+static inline knob_answer knob_sparsify_bits_returned(const uint8_t *bits, size_t bits_length, size_t m, size_t n,
+                                                      const double *weights, size_t weights_length, uint64_t seed, uint32_t edition,
+                                                      size_t target, double *output, size_t output_length,
+                                                      double *numbers, size_t numbers_length, uint32_t *indices, size_t indices_length) {
+    knob_answer answer;
+    return *knob_sparsify_bits(&answer, bits, bits_length, m, n, weights, weights_length, seed, edition, target, output, output_length,
+                               numbers, numbers_length, indices, indices_length);
+}
+
+static inline knob_answer knob_sparsify_within_bits_returned(const uint8_t *bits, size_t bits_length, size_t m, size_t n,
+                                                             const double *weights, size_t weights_length, uint64_t seed, uint32_t edition,
+                                                             double allowance, uint32_t capped, size_t cap,
+                                                             double *output, size_t output_length,
+                                                             double *numbers, size_t numbers_length,
+                                                             uint32_t *indices, size_t indices_length) {
+    knob_answer answer;
+    return *knob_sparsify_within_bits(&answer, bits, bits_length, m, n, weights, weights_length, seed, edition, allowance, capped, cap,
+                                      output, output_length, numbers, numbers_length, indices, indices_length);
+}
+
+static inline knob_answer knob_thin_bits_returned(const uint8_t *bits, size_t bits_length, size_t m, size_t n,
+                                                  const double *weights, size_t weights_length, uint64_t seed, uint32_t edition,
+                                                  uint32_t rule, double allowance, size_t limit,
+                                                  double *output, size_t output_length,
+                                                  double *numbers, size_t numbers_length, uint32_t *indices, size_t indices_length) {
+    knob_answer answer;
+    return *knob_thin_bits(&answer, bits, bits_length, m, n, weights, weights_length, seed, edition, rule, allowance, limit,
+                           output, output_length, numbers, numbers_length, indices, indices_length);
+}
+
+static inline knob_colored knob_discrepancy_coloring_bits_returned(const uint8_t *bits, size_t bits_length, size_t m, size_t n, uint64_t seed,
+                                                                   int8_t *output, size_t output_length,
+                                                                   double *numbers, size_t numbers_length,
+                                                                   uint32_t *indices, size_t indices_length) {
+    knob_colored answer;
+    return *knob_discrepancy_coloring_bits(&answer, bits, bits_length, m, n, seed, output, output_length, numbers, numbers_length,
+                                           indices, indices_length);
+}
+
 #define knob_discrepancy_coloring knob_discrepancy_coloring_returned
 #define knob_sparsify knob_sparsify_returned
 #define knob_sparsify_within knob_sparsify_within_returned
 #define knob_thin_all knob_thin_all_returned
 #define knob_thin_votes knob_thin_votes_returned
+#define knob_sparsify_bits knob_sparsify_bits_returned
+#define knob_sparsify_within_bits knob_sparsify_within_bits_returned
+#define knob_thin_bits knob_thin_bits_returned
+#define knob_discrepancy_coloring_bits knob_discrepancy_coloring_bits_returned
 #endif
 
 #ifdef __cplusplus
