@@ -72,7 +72,7 @@ fn one_call(matrix: &Matrix, items: &[Item]) -> Result<Vec<Result<Thinned, Refus
     let allowances: Vec<f64> = rules.iter().map(|rule| rule.1).collect();
     let limits: Vec<u64> = rules.iter().map(|rule| rule.2 as u64).collect();
     let mut output = vec![0.0; weights.len()];
-    let mut scratch = Scratch::new(matrix);
+    let mut scratch = Scratch::new(m, matrix.n);
     let mut answers = Answers { number: 0, items: [Answer::default(); MAX_ITEMS] };
     // SAFETY: for the reasons that `thin_matrix` gives.
     unsafe {

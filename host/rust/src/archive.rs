@@ -181,6 +181,111 @@ extern "C" {
         count: *mut u64,
     ) -> u64;
 
+    pub fn knob_thin_bits(
+        answer: *mut Answer,
+        bits: *const u8,
+        bits_length: usize,
+        m: usize,
+        n: usize,
+        weights: *const f64,
+        weights_length: usize,
+        seed: u64,
+        edition: u32,
+        rule: u32,
+        allowance: f64,
+        limit: usize,
+        output: *mut f64,
+        output_length: usize,
+        numbers: *mut f64,
+        numbers_length: usize,
+        indices: *mut u32,
+        indices_length: usize,
+    ) -> *mut Answer;
+
+    // The crate asks knob_thin_bits for both rules; these are for a host that takes this file alone.
+    #[allow(dead_code)]
+    pub fn knob_sparsify_bits(
+        answer: *mut Answer,
+        bits: *const u8,
+        bits_length: usize,
+        m: usize,
+        n: usize,
+        weights: *const f64,
+        weights_length: usize,
+        seed: u64,
+        edition: u32,
+        target: usize,
+        output: *mut f64,
+        output_length: usize,
+        numbers: *mut f64,
+        numbers_length: usize,
+        indices: *mut u32,
+        indices_length: usize,
+    ) -> *mut Answer;
+
+    #[allow(dead_code)]
+    pub fn knob_sparsify_within_bits(
+        answer: *mut Answer,
+        bits: *const u8,
+        bits_length: usize,
+        m: usize,
+        n: usize,
+        weights: *const f64,
+        weights_length: usize,
+        seed: u64,
+        edition: u32,
+        allowance: f64,
+        capped: u32,
+        cap: usize,
+        output: *mut f64,
+        output_length: usize,
+        numbers: *mut f64,
+        numbers_length: usize,
+        indices: *mut u32,
+        indices_length: usize,
+    ) -> *mut Answer;
+
+    pub fn knob_discrepancy_coloring_bits(
+        answer: *mut Colored,
+        bits: *const u8,
+        bits_length: usize,
+        m: usize,
+        n: usize,
+        seed: u64,
+        output: *mut i8,
+        output_length: usize,
+        numbers: *mut f64,
+        numbers_length: usize,
+        indices: *mut u32,
+        indices_length: usize,
+    ) -> *mut Colored;
+
+    pub fn knob_max_margin_change_bits(
+        bits: *const u8,
+        bits_length: usize,
+        m: usize,
+        n: usize,
+        before: *const f64,
+        before_length: usize,
+        after: *const f64,
+        after_length: usize,
+        change: *mut f64,
+    ) -> u64;
+
+    pub fn knob_turned_words_bits(
+        bits: *const u8,
+        bits_length: usize,
+        m: usize,
+        n: usize,
+        before: *const f64,
+        before_length: usize,
+        after: *const f64,
+        after_length: usize,
+        thresholds: *const f64,
+        thresholds_length: usize,
+        count: *mut u64,
+    ) -> u64;
+
     pub fn knob_moved(
         matrix: *const f64,
         matrix_length: usize,

@@ -38,8 +38,8 @@ pub struct Scratch {
 
 impl Scratch {
     /// What the sizes ask for; for sizes beyond the limits what the limits ask for, since those are refused before scratch is looked at.
-    pub fn new(matrix: &Matrix) -> Scratch {
-        let (m, n) = (matrix.m.min(MAX_COLUMNS), matrix.n.min(MAX_ROWS));
+    pub fn new(m: usize, n: usize) -> Scratch {
+        let (m, n) = (m.min(MAX_COLUMNS), n.min(MAX_ROWS));
         Scratch { numbers: vec![0.0; m * (n + 1) + m * m + 16 * m + 8 * (n + 1)], indices: vec![0; 8 * (m + n + 1)] }
     }
 }

@@ -26,6 +26,8 @@ pub enum Refusal {
     Scratch = 6,
     /// 14: a label of [`crate::thin_votes`] is neither 1 nor -1.
     Label = 14,
+    /// 15: a bit of [`crate::Votes`] behind a column's last row is set. Only [`crate::Votes::from_bits`] can make such votes.
+    SpareBit = 15,
     /// 7: an entry is not in [-1, 1]; a NaN is not.
     Entry = 7,
     /// 8: a weight, or a threshold of [`crate::turned_words`], is not finite.
@@ -40,7 +42,7 @@ pub enum Refusal {
 
 impl Refusal {
     /// Every refusal, in the order of the tests.
-    pub const ALL: [Refusal; 14] = [
+    pub const ALL: [Refusal; 15] = [
         Refusal::Allowance,
         Refusal::InfiniteAllowance,
         Refusal::Zero,
@@ -50,6 +52,7 @@ impl Refusal {
         Refusal::Empty,
         Refusal::Scratch,
         Refusal::Label,
+        Refusal::SpareBit,
         Refusal::Entry,
         Refusal::Weight,
         Refusal::Sum,
@@ -57,7 +60,7 @@ impl Refusal {
         Refusal::Buffer,
     ];
 
-    /// The number, 1 to 14 or 16; 10 is used for nothing.
+    /// The number, 1 to 16; 10 is used for nothing.
     pub fn number(self) -> u64 {
         self as u64
     }
@@ -84,6 +87,7 @@ impl fmt::Display for Refusal {
             Refusal::Empty => "there is no column or no row",
             Refusal::Scratch => "a scratch is too short",
             Refusal::Label => "a label is neither 1 nor -1",
+            Refusal::SpareBit => "a bit behind the last row of a column is set",
             Refusal::Entry => "an entry is not in [-1, 1]",
             Refusal::Weight => "a weight or a threshold is not finite",
             Refusal::Sum => "the sum of the weights' magnitudes is 0 or infinite",

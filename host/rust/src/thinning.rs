@@ -1,8 +1,10 @@
 //! The thinning of an ensemble's weights.
 
 use crate::archive::{knob_sparsify, knob_sparsify_within, Answer};
+use crate::bits::thin_votes_of;
+use crate::forms::Form;
 use crate::lent::{Matrix, Scratch, MAX_COLUMNS};
-use crate::Refusal;
+use crate::{Margins, Refusal};
 
 /// When a thinning stops.
 #[derive(Clone, Copy, Debug, PartialEq)]
@@ -74,18 +76,23 @@ pub struct Thinned {
     pub path: Vec<(usize, f64)>,
 }
 
-/// Thins weights, and gives the whole answer. [`sparsify`] and [`sparsify_within`] give its weights alone.
+/// Thins weights, and gives the whole answer. [`sparsify`] and [`sparsify_within`] give its weights alone. The margins are columns of doubles
+/// or, where they are all 1 or -1, [`Votes`](crate::Votes), one bit each, for the same answer.
 ///
 /// # Errors
 ///
-/// Every [`Refusal`] but [`Refusal::Scratch`], [`Refusal::Label`] and [`Refusal::ColoringEntry`]; [`Refusal::Allowance`] and
-/// [`Refusal::InfiniteAllowance`] only where the rule has an allowance.
-pub fn thin(columns: &[Vec<f64>], weights: &[f64], job: Job) -> Result<Thinned, Refusal> {
-    thin_matrix(&Matrix::new(columns), weights, job)
+/// Every [`Refusal`] but [`Refusal::Scratch`], [`Refusal::Label`], [`Refusal::ColoringEntry`] and [`Refusal::Buffer`];
+/// [`Refusal::Allowance`] and [`Refusal::InfiniteAllowance`] only where the rule has an allowance; [`Refusal::Entry`] only for doubles, and
+/// [`Refusal::SpareBit`] in its place for [`Votes`](crate::Votes).
+pub fn thin<M: Margins + ?Sized>(columns: &M, weights: &[f64], job: Job) -> Result<Thinned, Refusal> {
+    match columns.lend() {
+        Form::Doubles(matrix) => thin_matrix(&matrix, weights, job),
+        Form::Bits(votes) => thin_votes_of(votes, weights, job),
+    }
 }
 
 pub(crate) fn thin_matrix(matrix: &Matrix, weights: &[f64], job: Job) -> Result<Thinned, Refusal> {
-    let mut scratch = Scratch::new(matrix);
+    let mut scratch = Scratch::new(matrix.m, matrix.n);
     // Beyond the limits nothing is written: the call is refused before it looks at the output.
     let mut output = vec![0.0; matrix.m.min(MAX_COLUMNS)];
     let mut answer = Answer::default();

@@ -46,7 +46,7 @@ pub fn thin_votes(confidences: &[Vec<f64>], labels: &[i8], weights: &[f64], job:
         matrix.n = labels.len();
     }
     let (rule, allowance, limit) = job.rule.named();
-    let mut scratch = Scratch::new(&matrix);
+    let mut scratch = Scratch::new(matrix.m, matrix.n);
     // Beyond the limits nothing is written: the call is refused before it looks at the lists.
     let places = matrix.m.min(MAX_COLUMNS);
     let (mut columns, mut kept) = (vec![0; places], vec![0.0; places]);

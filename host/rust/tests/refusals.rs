@@ -19,7 +19,7 @@ fn both(columns: &[Vec<f64>], weights: &[f64]) -> Result<(), Refusal> {
 
 #[test]
 fn numbers_names_and_words() {
-    assert_eq!(Refusal::ALL.map(Refusal::number), [1, 12, 2, 13, 3, 4, 5, 6, 14, 7, 8, 9, 11, 16]);
+    assert_eq!(Refusal::ALL.map(Refusal::number), [1, 12, 2, 13, 3, 4, 5, 6, 14, 15, 7, 8, 9, 11, 16]);
     for refusal in Refusal::ALL {
         assert!(!refusal.to_string().is_empty());
         let error: Box<dyn std::error::Error> = refusal.into();
