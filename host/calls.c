@@ -21,7 +21,7 @@
 static double matrix_room[ROOM], weights_room[ROOM], before_room[ROOM], after_room[ROOM], output_room[ROOM], numbers_room[ROOM];
 static int8_t signs_room[ROOM], labels_room[ROOM];
 static uint32_t columns_room[ROOM], indices_room[ROOM];
-static uint8_t text_room[ROOM], answer_room[ROOM];
+static uint8_t text_room[ROOM], answer_room[ROOM], bits_room[ROOM];
 
 static int wrong = 0;
 
@@ -466,6 +466,221 @@ static void discrepancy_coloring(void) {
     }
 }
 
+/* Votes of both kinds, in doubles and as bits. */
+static void fill_votes(size_t m, size_t n) {
+    fill(m, n);
+    memset(bits_room, 0, sizeof bits_room);
+    for (size_t k = 0; k < m * n; k++) {
+        const int no = matrix_room[k] < 0.0;
+        matrix_room[k] = no ? -1.0 : 1.0;
+        if (no) bits_room[k / n * KNOB_BYTES(n) + k % n / 8] |= (uint8_t)(1u << (k % n % 8));
+    }
+}
+
+/* The call on bits gave this answer, and the output and scratches are as the one on doubles left them. */
+static int same(knob_answer ours, knob_answer theirs, const double *left, size_t m, size_t numbers_length, size_t indices_length) {
+    return theirs.number == KNOB_ACCEPTED && theirs.stage > 1 && memcmp(&ours, &theirs, sizeof ours) == 0 &&
+           memcmp(output_room, left, m * sizeof *left) == 0 && bits(output_room[m]) == NOISE && wiped(numbers_length, indices_length);
+}
+
+/* The answers on bits are those of the calls on the doubles that they stand for, made first. */
+static void sparsify_bits(void) {
+    const uint8_t *bits = bits_room;
+    const double *matrix = matrix_room, *weights = weights_room;
+    double *output = output_room, *numbers = numbers_room, left[24];
+    uint32_t *indices = indices_room;
+    {
+        const size_t m = 24, n = 19, bits_length = 72, matrix_length = 456, weights_length = 24, output_length = 24;
+        const size_t numbers_length = KNOB_NUMBERS(24, 19), indices_length = KNOB_INDICES(24, 19), target = 7;
+        const uint64_t seed = 3;
+        const uint32_t edition = 2;
+        fill_votes(m, n);
+        lend();
+        const knob_answer theirs = CALL_knob_sparsify;
+        memcpy(left, output_room, sizeof left);
+        lend();
+        const knob_answer ours = CALL_knob_sparsify_bits;
+        hold("knob_sparsify_bits", same(ours, theirs, left, m, numbers_length, indices_length));
+        bits_room[3 * 5 + 2] |= 0x08; /* column 5, row 19, of which there is none */
+        lend();
+        hold("knob_sparsify_bits, a spare bit", answers(CALL_knob_sparsify_bits, KNOB_REFUSED_SPARE_BIT, 0, 0, 0, 0, 0) && untouched());
+    }
+    { /* No two of these are equal. */
+        const size_t m = 257, n = 5, bits_length = 6, weights_length = 7, output_length = 8, numbers_length = 9, indices_length = 10;
+        const size_t target = 11;
+        const uint64_t seed = 12;
+        const uint32_t edition = 2;
+        lend();
+        hold("knob_sparsify_bits, refused", answers(CALL_knob_sparsify_bits, KNOB_REFUSED_SIZE, 0, 0, 0, 0, 0) && untouched());
+    }
+    { /* Nor of these: the edition and the target are tested before the sizes. */
+        const size_t m = 257, n = 5, bits_length = 6, weights_length = 7, output_length = 8, numbers_length = 9, indices_length = 10;
+        const uint64_t seed = 12;
+        const uint32_t edition = 3;
+        size_t target = 11;
+        lend();
+        hold("knob_sparsify_bits, no such edition", answers(CALL_knob_sparsify_bits, KNOB_REFUSED_EDITION, 0, 0, 0, 0, 0) && untouched());
+        target = 0;
+        hold("knob_sparsify_bits, no target", answers(CALL_knob_sparsify_bits, KNOB_REFUSED_ZERO, 0, 0, 0, 0, 0) && untouched());
+    }
+}
+
+static void sparsify_within_bits(void) {
+    const uint8_t *bits = bits_room;
+    const double *matrix = matrix_room, *weights = weights_room;
+    double *output = output_room, *numbers = numbers_room, left[40];
+    uint32_t *indices = indices_room;
+    {
+        const size_t m = 40, n = 11, bits_length = 80, matrix_length = 440, weights_length = 40, output_length = 40;
+        const size_t numbers_length = KNOB_NUMBERS(40, 11), indices_length = KNOB_INDICES(40, 11), cap = 12;
+        const uint64_t seed = 4;
+        const uint32_t edition = 2, capped = 1;
+        const double allowance = 0.03125;
+        fill_votes(m, n);
+        lend();
+        const knob_answer theirs = CALL_knob_sparsify_within;
+        memcpy(left, output_room, sizeof left);
+        lend();
+        const knob_answer ours = CALL_knob_sparsify_within_bits;
+        hold("knob_sparsify_within_bits", same(ours, theirs, left, m, numbers_length, indices_length));
+    }
+    { /* Without a cap, whose value then does not matter. */
+        const size_t m = 40, n = 11, bits_length = 80, matrix_length = 440, weights_length = 40, output_length = 40;
+        const size_t numbers_length = KNOB_NUMBERS(40, 11), indices_length = KNOB_INDICES(40, 11), cap = 0;
+        const uint64_t seed = 4;
+        const uint32_t edition = 2, capped = 0;
+        const double allowance = 0.75;
+        lend();
+        const knob_answer theirs = CALL_knob_sparsify_within;
+        memcpy(left, output_room, sizeof left);
+        lend();
+        const knob_answer ours = CALL_knob_sparsify_within_bits;
+        hold("knob_sparsify_within_bits without a cap", same(ours, theirs, left, m, numbers_length, indices_length));
+    }
+    { /* No two of these are equal. */
+        const size_t m = 257, n = 5, bits_length = 6, weights_length = 7, output_length = 8, numbers_length = 9, indices_length = 10;
+        const size_t cap = 11;
+        const uint64_t seed = 12;
+        const uint32_t edition = 2, capped = 1;
+        double allowance = 0.5;
+        lend();
+        hold("knob_sparsify_within_bits, refused",
+             answers(CALL_knob_sparsify_within_bits, KNOB_REFUSED_SIZE, 0, 0, 0, 0, 0) && untouched());
+        allowance = -1.0;
+        hold("knob_sparsify_within_bits, no allowance",
+             answers(CALL_knob_sparsify_within_bits, KNOB_REFUSED_ALLOWANCE, 0, 0, 0, 0, 0) && untouched());
+    }
+}
+
+static void thin_bits(void) {
+    const uint8_t *bits = bits_room;
+    const double *matrix = matrix_room, *weights = weights_room;
+    double *output = output_room, *numbers = numbers_room, left[24];
+    uint32_t *indices = indices_room;
+    const size_t numbers_length = KNOB_NUMBERS(24, 19), indices_length = KNOB_INDICES(24, 19);
+    fill_votes(24, 19);
+    {
+        const size_t m = 24, n = 19, bits_length = 72, matrix_length = 456, weights_length = 24, output_length = 24, target = 7, limit = 7;
+        const uint64_t seed = 3;
+        const uint32_t edition = 2, rule = 0;
+        const double allowance = -1.0;
+        lend();
+        const knob_answer theirs = CALL_knob_sparsify;
+        memcpy(left, output_room, sizeof left);
+        lend();
+        const knob_answer ours = CALL_knob_thin_bits;
+        hold("knob_thin_bits", same(ours, theirs, left, m, numbers_length, indices_length));
+    }
+    {
+        const size_t m = 24, n = 19, bits_length = 72, matrix_length = 456, weights_length = 24, output_length = 24, cap = 5, limit = 5;
+        const uint64_t seed = 4;
+        const uint32_t edition = 1, rule = 2, capped = 1;
+        const double allowance = 0.03125;
+        lend();
+        const knob_answer theirs = CALL_knob_sparsify_within;
+        memcpy(left, output_room, sizeof left);
+        lend();
+        const knob_answer ours = CALL_knob_thin_bits;
+        hold("knob_thin_bits by a cap", same(ours, theirs, left, m, numbers_length, indices_length));
+    }
+    { /* No two of these are equal. */
+        const size_t m = 257, n = 5, bits_length = 6, weights_length = 7, output_length = 8, numbers_length = 9, indices_length = 10;
+        const size_t limit = 11;
+        const uint64_t seed = 12;
+        const uint32_t edition = 2;
+        const double allowance = 0.5;
+        uint32_t rule = 1;
+        lend();
+        hold("knob_thin_bits, refused", answers(CALL_knob_thin_bits, KNOB_REFUSED_SIZE, 0, 0, 0, 0, 0) && untouched());
+        rule = 3;
+        hold("knob_thin_bits, no such rule", answers(CALL_knob_thin_bits, KNOB_REFUSED_ZERO, 0, 0, 0, 0, 0) && untouched());
+    }
+}
+
+static void discrepancy_coloring_bits(void) {
+    const uint8_t *bits = bits_room;
+    const double *matrix = matrix_room;
+    double *numbers = numbers_room;
+    int8_t *output = signs_room, signs[10];
+    uint32_t *indices = indices_room;
+    {
+        const size_t m = 9, n = 11, bits_length = 18, matrix_length = 99, output_length = 9;
+        const size_t numbers_length = KNOB_NUMBERS(9, 11), indices_length = KNOB_INDICES(9, 11);
+        const uint64_t seed = 6;
+        fill_votes(m, n);
+        lend();
+        const knob_colored theirs = CALL_knob_discrepancy_coloring;
+        memcpy(signs, signs_room, sizeof signs);
+        lend();
+        const knob_colored ours = CALL_knob_discrepancy_coloring_bits;
+        hold("knob_discrepancy_coloring_bits, its record",
+             theirs.number == KNOB_ACCEPTED && theirs.directions != theirs.sweeps && memcmp(&ours, &theirs, sizeof ours) == 0);
+        hold("knob_discrepancy_coloring_bits", memcmp(signs_room, signs, sizeof signs) == 0 && wiped(numbers_length, indices_length));
+    }
+    { /* No two of these are equal. */
+        const size_t m = 257, n = 5, bits_length = 6, output_length = 8, numbers_length = 9, indices_length = 10;
+        const uint64_t seed = 12;
+        lend();
+        const knob_colored colored = CALL_knob_discrepancy_coloring_bits;
+        hold("knob_discrepancy_coloring_bits, refused",
+             colored.number == KNOB_REFUSED_SIZE && colored.directions == 0 && colored.sweeps == 0 && untouched());
+    }
+}
+
+/* Three columns of ten rows, of which the last moves farthest; by hand. */
+static void margins_bits(void) {
+    const uint8_t *bits = bits_room;
+    const double *before = before_room, *after = after_room;
+    const double thresholds[] = {3.0, 0.0, -2.0, 1.0, -3.0, 3.0, 2.0, 0.0, 5.0, 2.0};
+    double moved = -7.0, *change = &moved;
+    uint64_t turned = 77, *count = &turned;
+    memcpy(bits_room, (uint8_t[]){0x94, 0x00, 0x49, 0x00, 0xB6, 0x01}, 6);
+    memcpy(before_room, (double[]){1.0, 2.0, 3.0}, 3 * sizeof(double));
+    memcpy(after_room, (double[]){4.0, -2.0, -0.5}, 3 * sizeof(double));
+    {
+        const size_t m = 3, n = 10, bits_length = 6, before_length = 3, after_length = 3, thresholds_length = 10;
+        hold("knob_max_margin_change_bits, its number", CALL_knob_max_margin_change_bits == KNOB_ACCEPTED);
+        hold("knob_max_margin_change_bits", moved == 4.5);
+        hold("knob_turned_words_bits, its number", CALL_knob_turned_words_bits == KNOB_ACCEPTED);
+        hold("knob_turned_words_bits", turned == 5);
+        bits_room[3] = 0x04; /* column 1, row 10, of which there is none */
+        hold("knob_max_margin_change_bits, a spare bit", CALL_knob_max_margin_change_bits == KNOB_REFUSED_SPARE_BIT && moved == 0.0);
+        hold("knob_turned_words_bits, a spare bit", CALL_knob_turned_words_bits == KNOB_REFUSED_SPARE_BIT && turned == 0);
+    }
+    { /* No two of these are equal. */
+        const size_t m = 257, n = 5, bits_length = 6, before_length = 7, after_length = 8, thresholds_length = 9;
+        moved = -7.0;
+        turned = 77;
+        hold("knob_max_margin_change_bits, refused", CALL_knob_max_margin_change_bits == KNOB_REFUSED_SIZE && moved == 0.0);
+        hold("knob_turned_words_bits, refused", CALL_knob_turned_words_bits == KNOB_REFUSED_SIZE && turned == 0);
+    }
+    { /* Nor of these: too many rows. */
+        const size_t m = 3, n = 4097, bits_length = 6, before_length = 7, after_length = 8, thresholds_length = 9;
+        turned = 77;
+        hold("knob_turned_words_bits, too many rows", CALL_knob_turned_words_bits == KNOB_REFUSED_SIZE && turned == 0);
+    }
+}
+
 /* Three columns of four rows; by hand. */
 static void margins(void) {
     static const double columns[] = {0.5, -1.0, 0.25, 1.0, 1.0, 0.5, -0.5, -0.25, -1.0, 0.75, 1.0, -0.5};
@@ -623,6 +838,11 @@ int main(void) {
     thin_votes();
     discrepancy_coloring();
     margins();
+    sparsify_bits();
+    sparsify_within_bits();
+    thin_bits();
+    discrepancy_coloring_bits();
+    margins_bits();
     moved();
     thin_sheet();
     moved_sheet();
