@@ -13,7 +13,8 @@ The work is done by the proved library; this package lends it arrays. Equal argu
 
 Margins have a row for each word and a column for each hypothesis: the hypothesis's verdict on the word, in [-1, 1], and positive where it
 is right. There are at most 256 hypotheses and 4096 words. An array of doubles in Fortran order is lent as it is; any other is copied
-first. An array of bools is taken as 1 where it is true and -1 where it is false.
+first. An array of bools is taken as votes, True a yes, which is 1, and False a no, which is -1. Where all margins are votes, in bools or in
+any numbers that are all 1 or -1, `thin`, `max_margin_change` and `turned_words` lend them as one bit each, for the same answers to the bit.
 """
 from ._many import thin_many
 from ._margins import Moved, max_margin_change, moved, turned_words

@@ -33,20 +33,26 @@ class Answer(ctypes.Structure):
 ARRAY = [c_void_p, c_size_t]
 MATRIX = [*ARRAY, c_size_t, c_size_t]
 
-CALLS: dict[str, tuple[list[Any], Any]] = {
-    "knob_version": ([], c_uint64),
+# The calls that take a matrix of doubles and, with _bits at the end of their names, one of votes as bits.
+OF_BOTH_FORMS: dict[str, tuple[list[Any], Any]] = {
     "knob_sparsify": ([POINTER(Answer), *MATRIX, *ARRAY, c_uint64, c_uint32, c_size_t, *ARRAY, *ARRAY, *ARRAY], c_void_p),
     "knob_sparsify_within": (
         [POINTER(Answer), *MATRIX, *ARRAY, c_uint64, c_uint32, c_double, c_uint32, c_size_t, *ARRAY, *ARRAY, *ARRAY],
         c_void_p,
     ),
+    "knob_max_margin_change": ([*MATRIX, *ARRAY, *ARRAY, POINTER(c_double)], c_uint64),
+    "knob_turned_words": ([*MATRIX, *ARRAY, *ARRAY, *ARRAY, POINTER(c_uint64)], c_uint64),
+}
+
+CALLS: dict[str, tuple[list[Any], Any]] = {
+    "knob_version": ([], c_uint64),
+    **OF_BOTH_FORMS,
+    **{name + "_bits": call for name, call in OF_BOTH_FORMS.items()},
     "knob_thin_votes": (
         [POINTER(Answer), *ARRAY, *ARRAY, c_size_t, c_size_t, *ARRAY, c_uint64, c_uint32, c_uint32, c_double, c_size_t]
         + [*ARRAY, *ARRAY, *ARRAY, *ARRAY],
         c_void_p,
     ),
-    "knob_max_margin_change": ([*MATRIX, *ARRAY, *ARRAY, POINTER(c_double)], c_uint64),
-    "knob_turned_words": ([*MATRIX, *ARRAY, *ARRAY, *ARRAY, POINTER(c_uint64)], c_uint64),
     "knob_moved": ([*MATRIX, *ARRAY, *ARRAY, *ARRAY, *ARRAY], c_uint64),
 }
 
@@ -75,6 +81,11 @@ def opened() -> ctypes.CDLL:
             raise ImportError(f"{found} is not of this version, since it has no {name}: run host/shared anew")
         call.argtypes, call.restype = arguments, result
     return library
+
+
+def call_of(name: str, form: str) -> Any:
+    """A call that takes margins, for the form in which they are lent."""
+    return getattr(library, name + form)
 
 
 library = opened()

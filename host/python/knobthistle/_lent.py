@@ -2,6 +2,7 @@
 from __future__ import annotations
 
 import operator
+from dataclasses import dataclass
 from typing import Any, Optional, SupportsIndex
 
 import numpy as np
@@ -24,8 +25,18 @@ def signs(margins: ArrayLike) -> Optional[NDArray[np.bool_]]:
     array = numbers(margins, "margins")
     if array.dtype == np.bool_:
         return array
-    positive = array == 1
-    return positive if np.logical_or(positive, array == -1).all() else None
+    # Most that are no votes show it in their first row.
+    for part in (array[:1], array):
+        positive = part == 1
+        if not np.logical_or(positive, part == -1).all():
+            return None
+    return positive
+
+
+def packed(votes: NDArray[np.bool_]) -> NDArray[np.uint8]:
+    """Votes as the library takes them, hypothesis after hypothesis: one bit each, set where it is false, which is -1; word 0 is the lowest
+    bit, a hypothesis begins on a byte, and the bits behind its last word are 0."""
+    return np.packbits(~np.ascontiguousarray(votes.T), axis=1, bitorder="little")
 
 
 def matrix(margins: ArrayLike) -> NDArray[np.float64]:
@@ -69,9 +80,33 @@ def lent_matrix(array: NDArray[np.float64]) -> tuple[int, int, int, int]:
     return array.ctypes.data, array.size, hypotheses, words
 
 
-def scratch(array: NDArray[np.float64]) -> tuple[NDArray[np.float64], NDArray[np.uint32]]:
+@dataclass(frozen=True, eq=False)
+class Margins:
+    """Margins in the form in which they are lent."""
+
+    array: NDArray[Any]
+    """Votes of 1 and -1 as bits, and others as doubles."""
+    form: str
+    """What the names of the calls that take this form have at their end."""
+    words: int
+    hypotheses: int
+
+    def lent(self) -> tuple[int, int, int, int]:
+        """The address, the length, the hypotheses and the words."""
+        return *lent(self.array), self.hypotheses, self.words
+
+
+def margins_of(margins: ArrayLike) -> Margins:
+    """Margins as the library takes them: one bit each where all of them are 1 or -1, for the same answers, else doubles."""
+    array = numbers(margins, "margins")
+    votes = signs(array) if array.ndim == 2 else None
+    entries = matrix(array) if votes is None else packed(votes)
+    return Margins(entries, "" if votes is None else "_bits", *array.shape)
+
+
+def scratch(words: int, hypotheses: int) -> tuple[NDArray[np.float64], NDArray[np.uint32]]:
     """What a thinning of such a matrix wants. Beyond the limits it is refused before the scratch is looked at."""
-    n, m = min(array.shape[0], MAX_ROWS), min(array.shape[1], MAX_COLUMNS)
+    n, m = min(words, MAX_ROWS), min(hypotheses, MAX_COLUMNS)
     return np.empty(m * (n + 1) + m * m + 16 * m + 8 * (n + 1)), np.empty(8 * (m + n + 1), np.uint32)
 
 

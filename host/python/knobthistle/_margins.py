@@ -8,26 +8,28 @@ from typing import Optional
 import numpy as np
 from numpy.typing import ArrayLike, NDArray
 
-from ._archive import library
-from ._lent import MAX_ROWS, lent, lent_matrix, matrix, vector
+from ._archive import call_of, library
+from ._lent import MAX_ROWS, lent, lent_matrix, margins_of, matrix, vector
 from ._refusal import check
 
 
 def max_margin_change(margins: ArrayLike, before: ArrayLike, after: ArrayLike) -> float:
-    """The largest change of a word's margin when the weights `before` are replaced by `after`, both used as given."""
-    entries, old, new = matrix(margins), vector(before, "before"), vector(after, "after")
+    """The largest change of a word's margin when the weights `before` are replaced by `after`, both used as given. Margins that are all 1
+    or -1, or bools, true for 1, are lent as one bit each, as `thin` lends them."""
+    entries, old, new = margins_of(margins), vector(before, "before"), vector(after, "after")
     change = c_double()
-    check(library.knob_max_margin_change(*lent_matrix(entries), *lent(old), *lent(new), byref(change)))
+    check(call_of("knob_max_margin_change", entries.form)(*entries.lent(), *lent(old), *lent(new), byref(change)))
     return change.value
 
 
 def turned_words(margins: ArrayLike, before: ArrayLike, after: ArrayLike, thresholds: Optional[ArrayLike] = None) -> int:
     """How many words turn: those whose margin is above their threshold by `before` and not by `after`, or by `after` and not by
-    `before`. There is one threshold for each word; without `thresholds` each is 0."""
-    entries, old, new = matrix(margins), vector(before, "before"), vector(after, "after")
-    limits = np.zeros(entries.shape[0]) if thresholds is None else vector(thresholds, "thresholds")
+    `before`. There is one threshold for each word; without `thresholds` each is 0. Margins that are all 1 or -1, or bools, true for 1, are
+    lent as one bit each, as `thin` lends them."""
+    entries, old, new = margins_of(margins), vector(before, "before"), vector(after, "after")
+    limits = np.zeros(entries.words) if thresholds is None else vector(thresholds, "thresholds")
     count = c_uint64()
-    check(library.knob_turned_words(*lent_matrix(entries), *lent(old), *lent(new), *lent(limits), byref(count)))
+    check(call_of("knob_turned_words", entries.form)(*entries.lent(), *lent(old), *lent(new), *lent(limits), byref(count)))
     return count.value
 
 

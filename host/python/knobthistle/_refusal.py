@@ -15,6 +15,7 @@ REASONS = {
     12: "the allowed change is infinite",
     13: "the edition is neither 1 nor 2",
     14: "a label is neither 1 nor -1",
+    15: "a bit behind a hypothesis's last word is set",
     16: "the buffer is shorter than the text",
 }
 

@@ -8,8 +8,8 @@ from typing import NamedTuple, Optional, SupportsFloat, SupportsIndex
 import numpy as np
 from numpy.typing import ArrayLike, NDArray
 
-from ._archive import Answer, library
-from ._lent import lent, lent_matrix, matrix, scratch, vector, word
+from ._archive import Answer, call_of
+from ._lent import lent, margins_of, scratch, vector, word
 from ._refusal import check
 
 
@@ -73,20 +73,23 @@ def thin(
     the change is exceeded, and from there while stages measure within it again. Exactly one of `target` and `within` is given. The draws
     start at `seed` and are those of `edition` 1 or 2.
 
+    Margins that are all 1 or -1, or bools, true for 1 and false for -1, are lent as one bit each, and give the same bits of the answer.
+
     Raises `Refusal`, which has a number, where the library refuses the job.
     """
     one_rule(target, within, cap)
-    entries, given = matrix(margins), vector(weights, "weights")
-    output = np.empty(entries.shape[1])
-    places, indices = scratch(entries)
+    entries, given = margins_of(margins), vector(weights, "weights")
+    output = np.empty(entries.hypotheses)
+    places, indices = scratch(entries.words, entries.hypotheses)
     answer = Answer()
-    first = (byref(answer), *lent_matrix(entries), *lent(given), word(seed, "seed"), word(edition, "edition", 32))
+    first = (byref(answer), *entries.lent(), *lent(given), word(seed, "seed"), word(edition, "edition", 32))
     last = (*lent(output), *lent(places), *lent(indices))
     if target is not None:
-        library.knob_sparsify(*first, word(target, "target"), *last)
+        call_of("knob_sparsify", entries.form)(*first, word(target, "target"), *last)
     else:
         capped = cap is not None
-        library.knob_sparsify_within(*first, float(within), int(capped), word(cap, "cap") if capped else 0, *last)
+        limits = (float(within), int(capped), word(cap, "cap") if capped else 0)
+        call_of("knob_sparsify_within", entries.form)(*first, *limits, *last)
     check(answer.number)
     return Thinned(
         weights=output,

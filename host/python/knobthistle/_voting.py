@@ -57,7 +57,7 @@ def thin_votes(
     # Beyond the limits the call is refused before it looks at the lists.
     hypotheses = min(entries.shape[1], MAX_COLUMNS)
     columns, kept = np.empty(hypotheses, np.uint32), np.empty(hypotheses)
-    places, indices = scratch(entries)
+    places, indices = scratch(*entries.shape)
     if target is not None:
         rule = (0, 0.0, word(target, "target"))
     elif cap is None:
