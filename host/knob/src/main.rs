@@ -13,6 +13,7 @@ mod sheet;
 mod table;
 mod text;
 mod trouble;
+mod verdicts;
 
 use std::fs;
 use std::io::{self, Write};
@@ -20,6 +21,7 @@ use std::process::exit;
 
 use arguments::{Command, Request};
 use trouble::Trouble;
+use verdicts::Verdicts;
 
 fn main() {
     let words: Vec<String> = std::env::args_os().skip(1).map(|word| word.to_string_lossy().into_owned()).collect();
@@ -57,7 +59,7 @@ fn run(command: Command) -> Result<i32, Trouble> {
 fn thin(request: &Request) -> Result<i32, Trouble> {
     let ensemble = ensemble::read(request)?;
     let thresholds = ensemble::thresholds(request, &ensemble)?;
-    let outcome = match outcome::of(&ensemble, &thresholds, request) {
+    let outcome = match outcome::of(&Verdicts::of(&ensemble), &thresholds, request) {
         Ok(outcome) => outcome,
         Err(refusal) => {
             if request.json {

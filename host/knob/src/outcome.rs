@@ -1,9 +1,9 @@
 //! The library's answer to a job, and what is shown beside it: every stage with its turned words, and the words that moved.
 
-use knobthistle::{flat, Job, Moved, Refusal, Rule, Thinned};
+use knobthistle::{Job, Moved, Refusal, Rule, Thinned};
 
 use crate::arguments::Request;
-use crate::ensemble::Ensemble;
+use crate::verdicts::Verdicts;
 
 pub struct Outcome {
     pub thinned: Thinned,
@@ -22,18 +22,17 @@ pub struct Stage {
 
 /// A job with this target on the same ensemble and draws. The hypotheses left fall from stage to stage, so that the target of a stage's own
 /// count gives that stage, and a target one lower the next.
-fn with_target(ensemble: &Ensemble, job: Job, target: usize) -> Result<Thinned, Refusal> {
-    flat::thin(&ensemble.verdicts, ensemble.m, ensemble.n, &ensemble.weights, Job { rule: Rule::Target(target), ..job })
+fn with_target(verdicts: &Verdicts, job: Job, target: usize) -> Result<Thinned, Refusal> {
+    verdicts.thin(Job { rule: Rule::Target(target), ..job })
 }
 
-pub fn of(ensemble: &Ensemble, thresholds: &[f64], request: &Request) -> Result<Outcome, Refusal> {
-    let (matrix, m, n) = (&ensemble.verdicts, ensemble.m, ensemble.n);
-    let thinned = flat::thin(matrix, m, n, &ensemble.weights, request.job)?;
-    let start = with_target(ensemble, request.job, thinned.path[0].0)?.weights;
+pub fn of(verdicts: &Verdicts, thresholds: &[f64], request: &Request) -> Result<Outcome, Refusal> {
+    let thinned = verdicts.thin(request.job)?;
+    let start = with_target(verdicts, request.job, thinned.path[0].0)?.weights;
     // The weights of a stage between the first and the one taken are had by a job of their own. These do not wait for each other.
     let between: Vec<Result<Thinned, Refusal>> = std::thread::scope(|scope| {
         let jobs = thinned.path.iter().take(thinned.stage).skip(1);
-        let running: Vec<_> = jobs.map(|stage| scope.spawn(|| with_target(ensemble, request.job, stage.0))).collect();
+        let running: Vec<_> = jobs.map(|stage| scope.spawn(|| with_target(verdicts, request.job, stage.0))).collect();
         running.into_iter().filter_map(|job| job.join().ok()).collect()
     });
     let mut weights = vec![start.clone()];
@@ -43,15 +42,15 @@ pub fn of(ensemble: &Ensemble, thresholds: &[f64], request: &Request) -> Result<
     weights.push(thinned.weights.clone());
     let mut stages = Vec::new();
     for ((nonzeros, change), weights) in thinned.path.iter().zip(&weights) {
-        stages.push(Stage { nonzeros: *nonzeros, change: *change, turned: flat::turned_words(matrix, m, n, &start, weights, thresholds)? });
+        stages.push(Stage { nonzeros: *nonzeros, change: *change, turned: verdicts.turned_words(&start, weights, thresholds)? });
     }
     let next = if request.svg.is_some() && thinned.nonzeros > 1 {
-        with_target(ensemble, request.job, thinned.nonzeros - 1)?.path.last().copied()
+        with_target(verdicts, request.job, thinned.nonzeros - 1)?.path.last().copied()
     } else {
         None
     };
     let moved = match request.moved {
-        Some(_) => Some(flat::moved(matrix, m, n, &start, &thinned.weights)?),
+        Some(_) => Some(verdicts.moved(&start, &thinned.weights)?),
         None => None,
     };
     Ok(Outcome { thinned, stages, next, moved })

@@ -68,6 +68,30 @@ fn forms() {
     }
 }
 
+/// Votes of 1 and -1 are lent as bits; beside a verdict that is neither, as doubles. A hypothesis of weight 0 takes no part, so that with
+/// such a one the same answer comes by the other form.
+#[test]
+fn votes_and_doubles() {
+    let line = |j: usize| {
+        let votes: Vec<&str> = (0..19).map(|i| if (j * 37 + i * i * 11 + j * i) % 9 < 4 { "-1" } else { "1" }).collect();
+        format!("{},{}\n", 1 + j * j % 11, votes.join(","))
+    };
+    let votes: String = (0..24).map(line).collect();
+    let doubles = format!("{votes}0{}\n", ",0.5".repeat(19));
+    for rule in [&["--target=4"][..], &["--within=0.3"], &["--within=0.05", "--cap=3", "--edition=2"]] {
+        let of = |test: &str, text: &str| {
+            let file = file(test, text);
+            let mut words = vec!["thin", "--json", "--moved=19", "--seed=5"];
+            words.extend(rule);
+            words.push(file.to_str().unwrap());
+            said(&knob(&words))
+        };
+        let (status, out, err) = of("votes_and_doubles-votes", &votes);
+        assert_eq!((status, err.as_str()), (0, ""));
+        assert_eq!((status, out, err), of("votes_and_doubles-doubles", &doubles));
+    }
+}
+
 /// What is wrong is told by file, line and field, and by the exit status.
 #[test]
 fn errors() {
