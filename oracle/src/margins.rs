@@ -109,20 +109,6 @@ impl Call {
     }
 }
 
-/// A double of any kind: now and then not a finite one.
-fn any(wild: bool, chance: &mut Chance) -> f64 {
-    match chance.below(if wild { 12 } else { 9 }) {
-        0 => 0.0 * chance.sign(),
-        1 => chance.sign(),
-        2 => chance.signed() * 1e-310,
-        3 => chance.signed() * 10f64.powi(chance.below(40) as i32 - 20),
-        9 => chance.pick(&[f64::NAN, -f64::NAN, f64::INFINITY, f64::NEG_INFINITY]),
-        10 => f64::from_bits(chance.word()),
-        11 => f64::MAX * chance.sign(),
-        _ => chance.signed(),
-    }
-}
-
 /// A finite threshold for a row.
 fn threshold(c: &Call, i: usize, chance: &mut Chance) -> f64 {
     let met = match chance.below(6) {
@@ -130,7 +116,7 @@ fn threshold(c: &Call, i: usize, chance: &mut Chance) -> f64 {
         1 => c.margin(i, &c.after),
         2 => 0.0,
         3 => -0.0,
-        _ => any(false, chance),
+        _ => chance.any(false),
     };
     if met.is_finite() {
         met
@@ -142,10 +128,10 @@ fn threshold(c: &Call, i: usize, chance: &mut Chance) -> f64 {
 fn call(m: usize, n: usize, chance: &mut Chance) -> Call {
     let wild = chance.once_in(5);
     let matrix =
-        if wild { (0..m * n).map(|_| any(true, chance)).collect() } else { matrices::matrix(chance.below(matrices::KINDS), m, n, chance) };
-    let before: Vec<f64> = (0..m).map(|_| any(wild, chance)).collect();
+        if wild { (0..m * n).map(|_| chance.any(true)).collect() } else { matrices::matrix(chance.below(matrices::KINDS), m, n, chance) };
+    let before: Vec<f64> = (0..m).map(|_| chance.any(wild)).collect();
     // Some weights stay, so that some differences are 0.
-    let after = before.iter().map(|w| if chance.once_in(3) { *w } else { any(wild, chance) }).collect();
+    let after = before.iter().map(|w| if chance.once_in(3) { *w } else { chance.any(wild) }).collect();
     let mut c = Call { matrix, m, n, before, after, thresholds: Vec::new() };
     // Thresholds that a margin meets exactly, zeros of both signs, and others.
     c.thresholds = (0..n).map(|i| threshold(&c, i, chance)).collect();

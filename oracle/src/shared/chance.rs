@@ -67,6 +67,20 @@ impl Chance {
         from[self.below(from.len())]
     }
 
+    /// A double of any kind: where it may be wild, now and then not a finite one.
+    pub fn any(&mut self, wild: bool) -> f64 {
+        match self.below(if wild { 12 } else { 9 }) {
+            0 => 0.0 * self.sign(),
+            1 => self.sign(),
+            2 => self.signed() * 1e-310,
+            3 => self.signed() * 10f64.powi(self.below(40) as i32 - 20),
+            9 => self.pick(&[f64::NAN, -f64::NAN, f64::INFINITY, f64::NEG_INFINITY]),
+            10 => f64::from_bits(self.word()),
+            11 => f64::MAX * self.sign(),
+            _ => self.signed(),
+        }
+    }
+
     /// A seed for a job: now and then one at the edge, or one whose first output is all zeros or all ones, or one with a small draw.
     pub fn seed(&mut self) -> u64 {
         match self.below(8) {

@@ -16,6 +16,13 @@ impl<T: Copy + PartialEq + Default> Lent<T> {
         Lent { before: all.clone(), all }
     }
 
+    /// A buffer that holds this before the call.
+    pub fn holding(content: &[T], noise: impl FnMut() -> T) -> Lent<T> {
+        let mut lent = Lent::new(content.len(), noise);
+        lent.all[FENCE..FENCE + content.len()].copy_from_slice(content);
+        Lent { before: lent.all.clone(), ..lent }
+    }
+
     pub fn len(&self) -> usize {
         self.all.len() - 2 * FENCE
     }
