@@ -1,8 +1,12 @@
 // needs: knob_gaussian knob_discrepancy_coloring knob_sparsify
 //! The benchmark: the original with its own draws from the platform's library, and the archive, in one run. Each time is the best of
-//! several rounds, in which the two sides take turns.
+//! several rounds, in which the two sides take turns. Where the archive has the calls on votes as bits, they are timed too, beside the
+//! original on the expanded matrix.
 //! Argument: the folder of archived ensembles.
 
+#[cfg(call = "knob_sparsify_bits")]
+#[path = "shared/bits_calls.rs"]
+mod bits_calls;
 #[path = "shared/chance.rs"]
 mod chance;
 #[path = "shared/coloring_call.rs"]
@@ -13,6 +17,9 @@ mod draws;
 mod faces;
 #[path = "shared/matrices.rs"]
 mod matrices;
+#[cfg(call = "knob_sparsify_bits")]
+#[path = "shared/packed.rs"]
+mod packed;
 /// The original with its own draws.
 mod peer {
     include!(concat!(env!("ORACLE_WORK"), "/peer.rs"));
@@ -36,7 +43,7 @@ fn line(name: &str, (original, ours): (f64, f64)) {
             format!("{:.2} ms", t * 1e3)
         }
     };
-    println!("{name:<44} {:>12} {:>12} {:>8.2}", unit(original), unit(ours), original / ours);
+    println!("{name:<48} {:>12} {:>12} {:>8.2}", unit(original), unit(ours), original / ours);
 }
 
 fn gaussians() {
@@ -89,11 +96,58 @@ fn jobs(chance: &mut Chance, folder: &str) {
     }
 }
 
+/// The sizes of the double form once more, with votes as bits.
+#[cfg(call = "knob_sparsify_bits")]
+fn bits(chance: &mut Chance, folder: &str) {
+    for (m, n) in [(8, 16), (32, 64), (60, 500), (60, 2000), (256, 4096)] {
+        let matrix: Vec<f64> = (0..m * n).map(|_| chance.sign()).collect();
+        let weights: Vec<f64> = (0..m).map(|_| chance.unit() + 0.5).collect();
+        line(&format!("target 4 of {m}x{n}, bits"), job_on_bits(&matrix, m, n, &weights));
+    }
+    for face in faces::faces(folder) {
+        if face.margins.iter().all(|margin| margin.abs() == 1.0) {
+            line(&format!("target 4 of {}, bits", face.name), job_on_bits(&face.margins, face.m, face.n, &face.weights));
+        }
+    }
+}
+
+/// The times of a job with target 4: the original on a matrix of 1 and -1, and ours on its bits.
+#[cfg(call = "knob_sparsify_bits")]
+fn job_on_bits(matrix: &[f64], m: usize, n: usize, weights: &[f64]) -> (f64, f64) {
+    let (columns, bits) = (matrices::columns(matrix, m, n), packed::packed(matrix, m, n));
+    let (mut output, (mut numbers, mut indices)) = (vec![0.0; m], scratch(m, n));
+    let mut answer = thinning_calls::Answer::noise();
+    let ours = |seed: u64| unsafe {
+        bits_calls::knob_sparsify_bits(
+            &mut answer,
+            bits.as_ptr(),
+            bits.len(),
+            m,
+            n,
+            weights.as_ptr(),
+            m,
+            seed,
+            1,
+            4,
+            output.as_mut_ptr(),
+            m,
+            numbers.as_mut_ptr(),
+            numbers.len(),
+            indices.as_mut_ptr(),
+            indices.len(),
+        );
+        assert_eq!(answer.number, 0, "a job is accepted");
+    };
+    best(|seed| drop(black_box(peer::sparsify(&columns, weights, 4, seed))), ours)
+}
+
 fn main() {
     let folder = std::env::args().nth(1).expect("the folder of archived ensembles");
     let mut chance = Chance::new("bench", 5);
-    println!("{:<44} {:>12} {:>12} {:>8}", "best times", "original", "ours", "ratio");
+    println!("{:<48} {:>12} {:>12} {:>8}", "best times", "original", "ours", "ratio");
     gaussians();
     colorings(&mut chance);
     jobs(&mut chance, &folder);
+    #[cfg(call = "knob_sparsify_bits")]
+    bits(&mut chance, &folder);
 }

@@ -1,10 +1,12 @@
-// needs: knob_discrepancy_coloring knob_sparsify knob_sparsify_within knob_thin_all knob_thin_votes knob_max_margin_change knob_turned_words knob_thin_sheet knob_moved_sheet knob_moved knob_moved_again knob_write_sheet knob_read_sheet knob_salvage
+// needs: knob_discrepancy_coloring knob_sparsify knob_sparsify_within knob_thin_all knob_thin_votes knob_max_margin_change knob_turned_words knob_thin_sheet knob_moved_sheet knob_moved knob_moved_again knob_write_sheet knob_read_sheet knob_salvage knob_sparsify_bits knob_sparsify_within_bits knob_thin_bits knob_discrepancy_coloring_bits knob_max_margin_change_bits knob_turned_words_bits
 //! The stack that each call uses, at the largest sizes: the stack below a call is painted before it, and what is left of the paint is
 //! counted after it. The lent scratch is all else that a call may use, so this is its whole memory. The calls that answer a sheet
 //! or save one have their scratch on the stack too, and so may use twice as much.
 
 #[path = "shared/batch_call.rs"]
 mod batch_call;
+#[path = "shared/bits_calls.rs"]
+mod bits_calls;
 #[path = "shared/chance.rs"]
 mod chance;
 #[path = "shared/coloring_call.rs"]
@@ -15,6 +17,8 @@ mod margin_calls;
 mod matrices;
 #[path = "shared/moved_calls.rs"]
 mod moved_calls;
+#[path = "shared/packed.rs"]
+mod packed;
 #[path = "shared/tally.rs"]
 mod tally;
 #[path = "shared/thinning_calls.rs"]
@@ -101,6 +105,45 @@ fn measure(name: &str, allowed: usize, tally: &mut Tally, mut call: impl FnMut()
     tally.note(number == 0 && bytes < allowed, || format!("{name}: number {number}, {bytes} bytes"));
 }
 
+/// The calls on votes as bits.
+#[rustfmt::skip]
+fn on_bits(tally: &mut Tally, chance: &mut Chance) {
+    let (m, n) = (256, 4096);
+    let votes = packed::votes(m, n, chance);
+    let weights: Vec<f64> = (0..m).map(|_| chance.unit() + 0.5).collect();
+    let (mut output, mut colours, thresholds) = (vec![0.0; m], vec![0i8; m], vec![0.0; n]);
+    let mut numbers = vec![0.0; m * (n + 1) + m * m + 16 * m + 8 * (n + 1)];
+    let mut indices = vec![0u32; 8 * (m + n + 1)];
+    let (bits, bytes, w, out) = (votes.as_ptr(), votes.len(), weights.as_ptr(), output.as_mut_ptr());
+    let (floats, many, words, more) = (numbers.as_mut_ptr(), numbers.len(), indices.as_mut_ptr(), indices.len());
+    let mut answer = thinning_calls::Answer::noise();
+    measure("sparsify_bits", ALLOWED, tally, || unsafe {
+        bits_calls::knob_sparsify_bits(&mut answer, bits, bytes, m, n, w, m, 1, 1, 4, out, m, floats, many, words, more);
+        answer.number
+    });
+    measure("sparsify_within_bits", ALLOWED, tally, || unsafe {
+        bits_calls::knob_sparsify_within_bits(&mut answer, bits, bytes, m, n, w, m, 1, 1, 0.1, 1, 4, out, m, floats, many, words, more);
+        answer.number
+    });
+    measure("thin_bits", ALLOWED, tally, || unsafe {
+        bits_calls::knob_thin_bits(&mut answer, bits, bytes, m, n, w, m, 1, 2, 2, 0.1, 4, out, m, floats, many, words, more);
+        answer.number
+    });
+    measure("discrepancy_coloring_bits", ALLOWED, tally, || unsafe {
+        let mut colored = coloring_call::Colored::noise();
+        bits_calls::knob_discrepancy_coloring_bits(
+            &mut colored, bits, bytes, m, n, 1, colours.as_mut_ptr(), m, floats, many, words, more,
+        );
+        colored.number
+    });
+    measure("max_margin_change_bits", ALLOWED, tally, || unsafe {
+        bits_calls::knob_max_margin_change_bits(bits, bytes, m, n, w, m, out, m, &mut 0.0)
+    });
+    measure("turned_words_bits", ALLOWED, tally, || unsafe {
+        bits_calls::knob_turned_words_bits(bits, bytes, m, n, w, m, out, m, thresholds.as_ptr(), n, &mut 0)
+    });
+}
+
 fn all() -> Tally {
     let (m, n) = (256, 4096);
     let mut chance = Chance::new("stack", 6);
@@ -134,16 +177,31 @@ fn all() -> Tally {
     measure("sparsify", ALLOWED, &mut tally, || unsafe {
         let (w, out) = (weights.as_ptr(), output.as_mut_ptr());
         let (numbers, indices) = (numbers_at, indices_at);
-        thinning_calls::knob_sparsify(
-            &mut answer, lent, length, m, n, w, m, 1, 1, 4, out, m, numbers.0, numbers.1, indices.0, indices.1,
-        );
+        thinning_calls::knob_sparsify(&mut answer, lent, length, m, n, w, m, 1, 1, 4, out, m, numbers.0, numbers.1, indices.0, indices.1);
         answer.number
     });
     measure("sparsify_within", ALLOWED, &mut tally, || unsafe {
         let (w, out) = (weights.as_ptr(), output.as_mut_ptr());
         let (numbers, indices) = (numbers_at, indices_at);
         thinning_calls::knob_sparsify_within(
-            &mut answer, lent, length, m, n, w, m, 1, 1, 0.1, 1, 4, out, m, numbers.0, numbers.1, indices.0, indices.1,
+            &mut answer,
+            lent,
+            length,
+            m,
+            n,
+            w,
+            m,
+            1,
+            1,
+            0.1,
+            1,
+            4,
+            out,
+            m,
+            numbers.0,
+            numbers.1,
+            indices.0,
+            indices.1,
         );
         answer.number
     });
@@ -219,6 +277,7 @@ fn all() -> Tally {
     measure("turned_words", ALLOWED, &mut tally, || unsafe {
         margin_calls::knob_turned_words(lent, length, m, n, before, m, after, m, thresholds.as_ptr(), n, &mut 0)
     });
+    on_bits(&mut tally, &mut chance);
     let light: Vec<f64> = weights.iter().map(|w| w / 2.0).collect();
     let (mut rows, mut changes) = (vec![7u32; n], vec![0.0; n]);
     let (rows_at, changes_at) = (rows.as_mut_ptr(), changes.as_mut_ptr());
