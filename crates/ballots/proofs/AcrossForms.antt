@@ -10,11 +10,11 @@ use Rattle.limits.specs.Votes.{expanded}
 use Rattle.draw.specs.declared.SplitMix64.{SplitMix64}
 use Rattle.rules.specs.declared.Rule.{Rule}
 use Rattle.sparsification.specs.Answers.{Thinned, answerOf}
-use Rattle.sparsification.specs.Demand.{allows, Later}
+use Rattle.demand.specs.Demand.{allows, Later}
 use Rattle.sparsification.specs.declared.Answer.{Answer}
 use Rattle.sparsification.proofs.Accepting.{answered}
-use Rattle.sparsification.proofs.Monotone.{Double}
-use Rattle.sparsification.proofs.DemandThree.{Doubles, demand-three}
+use Rattle.demand.proofs.Monotone.{Double}
+use Rattle.demand.proofs.DemandThree.{Doubles, demand-three}
 use Rattle.ballots.specs.Refusals.{votesFault}
 use Rattle.ballots.specs.Ballots.{InForm}
 use Rattle.ballots.specs.Ballots.InForm.{from-bits, from-doubles}

@@ -7,9 +7,9 @@ use mathlib.Core.List.{List}
 use lib.Ieee.{Float}
 use Rattle.seq.specs.Lists.{part}
 use Rattle.sparsification.specs.Answers.{Thinned}
-use Rattle.sparsification.specs.Demand.{allows, Later}
-use Rattle.sparsification.proofs.Monotone.{Double}
-use Rattle.sparsification.proofs.DemandThree.{Doubles, demand-three}
+use Rattle.demand.specs.Demand.{allows, Later}
+use Rattle.demand.proofs.Monotone.{Double}
+use Rattle.demand.proofs.DemandThree.{Doubles, demand-three}
 use Rattle.batch.specs.Items.{Items, weightsAt, sourceAt, ruleAt}
 use Rattle.batch.specs.All.{ThinnedAll}
 use Rattle.batch.specs.declared.Answers.{Answers}

@@ -1,5 +1,3 @@
 -- What the C interface adds to the definitions.
 pub mod Version
 pub mod Caps
-pub mod SheetBytes
-pub mod Cases

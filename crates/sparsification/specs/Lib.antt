@@ -1,4 +1,3 @@
--- The thinning: what a job answers, and what two jobs have to do with each other.
+-- The thinning: what a job answers and leaves.
 pub mod Answers
 pub mod Thinning
-pub mod Demand

@@ -23,7 +23,7 @@ use Rattle.stages.proofs.Lengths.{length-stage, length-normalized}
 use Rattle.stages.proofs.Passing.{falling, normal-stage}
 use Rattle.sparsification.specs.Answers.{stopFor, returned}
 use Rattle.sparsification.proofs.Accepting.{Accepted, accepted}
-use Rattle.sparsification.proofs.DemandThree.{Doubles, start-normal, start-few}
+use Rattle.demand.proofs.DemandThree.{Doubles, start-normal, start-few}
 use Rattle.sparsification.proofs.Finishing.{start-bounded}
 use Rattle.sorting.specs.Moved.{movedRows, changesAt}
 use Rattle.moving.specs.Answers.{lengthFault, rangeFault, movedFault, lentChanges}

@@ -40,10 +40,10 @@ use Rattle.seq.proofs.Choosing.{first-holds}
 use Rattle.stages.proofs.Halting.{FirstStop, few-rests}
 use Rattle.sparsification.proofs.Accepting.{values-good}
 use Rattle.stages.proofs.Passing.{normal-start}
-use Rattle.sparsification.proofs.DemandThree.{Doubles}
-use Rattle.sparsification.proofs.Settled.{stage-alone, settled}
-use Rattle.knobthistle.specs.Cases.{table, hold, half, underHalf, quarter, threeQuarters, one, minusOne, three, minusThree, four, atOnce, oneLeft}
-use Rattle.knobthistle.specs.Cases.{smallest, matrix, withoutCounts, by, any, thins, refuses, refusesRule, draws, uniform, Room, called, holds}
+use Rattle.demand.proofs.DemandThree.{Doubles}
+use Rattle.demand.proofs.Settled.{stage-alone, settled}
+use Rattle.starred.specs.Cases.{table, hold, half, underHalf, quarter, threeQuarters, one, minusOne, three, minusThree, four, atOnce, oneLeft}
+use Rattle.starred.specs.Cases.{smallest, matrix, withoutCounts, by, any, thins, refuses, refusesRule, draws, uniform, Room, called, holds}
 use Rattle.seq.specs.Lists.{repeated}
 use Rattle.fields.specs.Digits.{digitsOf}
 use Rattle.fields.specs.Texts.{widthIn}
@@ -51,9 +51,9 @@ use Rattle.form.specs.Sheets.{Wish, within, entriesText, columnText, columnsTex
 use Rattle.form.proofs.OfForm.{of-the-form-is-taken}
 use Rattle.asking.specs.Jobs.{sheetFault, jobText}
 use Rattle.answering.specs.Answer.{okLine, weightLines, answerText}
-use Rattle.knobthistle.specs.Cases.{onSheet}
-use Rattle.knobthistle.specs.SheetBytes.{sheetWith, halfRule, underHalfRule, cappedRule, oneLeftText, bothLeftText}
-use Rattle.knobthistle.proofs.SheetCases.{room, answered-so, returned-so, saying, fitting, job-of, text-of}
+use Rattle.starred.specs.Cases.{onSheet}
+use Rattle.starred.specs.SheetBytes.{sheetWith, halfRule, underHalfRule, cappedRule, oneLeftText, bothLeftText}
+use Rattle.starred.proofs.SheetCases.{room, answered-so, returned-so, saying, fitting, job-of, text-of}
 
 abbrev columns : ℕ → ℕ → Float
 columns = columnsOf matrix 2

@@ -18,7 +18,7 @@ use Rattle.ieee.proofs.Ranks.{le-transitive}
 use Rattle.stages.specs.Stages.{stageOf, movedBy}
 use Rattle.rules.specs.Rules.{meets, ruleFault, capFault}
 use Rattle.stages.specs.Stopping.{entriesAt, above, rests, exceeds, stops, stopOf}
-use Rattle.sparsification.specs.Demand.{asTight, allows}
+use Rattle.demand.specs.Demand.{asTight, allows}
 use Rattle.stages.specs.Among.{Among}
 use Rattle.rules.specs.declared.Cap.{Cap}
 use Rattle.rules.specs.declared.Cap.the-variants.{Absent, AtMost}
@@ -26,7 +26,7 @@ use Rattle.rules.specs.declared.Rule.{Rule}
 use Rattle.rules.specs.declared.Rule.the-variants.{Target, Within}
 use Rattle.seq.proofs.Choosing.{neither, one-holds, both, never, weaker-or, weaker-and, weaker-not, shown, holds}
 use Rattle.stages.proofs.Halting.{Falls, FirstStop, Leads, leads, stop-is-first}
-use Rattle.sparsification.proofs.Unmoved.{moved-fits, no-change}
+use Rattle.demand.proofs.Unmoved.{moved-fits, no-change}
 use Rattle.stages.proofs.Lengths.{length-stage}
 use Rattle.draw.specs.declared.SplitMix64.{SplitMix64}
 

@@ -1,3 +1,3 @@
--- The laws of the C interface.
+-- That the starred cases hold.
 pub mod SheetCases
 pub mod Starred

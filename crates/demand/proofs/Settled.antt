@@ -14,14 +14,14 @@ use Rattle.halving.proofs.Few.{largest-alone}
 use Rattle.stages.specs.Stages.{stageOf}
 use Rattle.stages.specs.Stopping.{entriesAt}
 use Rattle.faults.specs.Faults.{jobFault}
 use Rattle.sparsification.specs.Answers.{answerAt, Thinned}
 use Rattle.sparsification.specs.declared.Answer.{Answer}
 use Rattle.rules.specs.declared.Rule.{Rule}
 use Rattle.stages.proofs.Halting.{Leads, FirstStop, only, stop-is-first}
 use Rattle.stages.proofs.Lengths.{length-stage}
 use Rattle.stages.proofs.Passing.{falling, normal-stage}
 use Rattle.sparsification.proofs.Accepting.{accepted, number-there, answer-stage, output-stage}
-use Rattle.sparsification.proofs.DemandThree.{Doubles, start-normal, start-few}
+use Rattle.demand.proofs.DemandThree.{Doubles, start-normal, start-few}
 use Rattle.draw.specs.declared.SplitMix64.{SplitMix64}
 
 module _ (matrix : ℕ → ℕ → Float) (n : ℕ) (start : List Float) (source : SplitMix64) (normal : Normal binary64 (length start) (at start))

@@ -19,7 +19,7 @@ use Rattle.asking.specs.Jobs.{sheetFault, jobAnswer, jobText}
 use Rattle.answering.specs.Answer.{okLine, answerText}
 use Rattle.sheet.specs.Answer.{sheetAnswer}
 use Rattle.rules.specs.declared.Rule.{Rule}
-use Rattle.knobthistle.specs.Cases.{matrix, withoutCounts, by, called, Room}
+use Rattle.starred.specs.Cases.{matrix, withoutCounts, by, called, Room}
 
 pub room : Room 2 2 (repeated plusZero 2) (repeated plusZero 100) (repeated 0 100)
 unfolding tabulate

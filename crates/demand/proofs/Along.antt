@@ -27,11 +27,11 @@ use Rattle.stages.proofs.Lengths.{length-normalized, length-stage}
 use Rattle.stages.proofs.Passing.{falling, normal-stage}
 use Rattle.stages.proofs.Following.{path-at, nine-stages}
 use Rattle.stages.proofs.Totals.{job-directions, job-sweeps}
 use Rattle.sparsification.specs.Answers.{answerAt, stopFor, Thinned}
-use Rattle.sparsification.specs.Demand.{keeps}
+use Rattle.demand.specs.Demand.{keeps}
 use Rattle.sparsification.specs.declared.Answer.{Answer}
 use Rattle.sparsification.proofs.Accepting.{Accepted, accepted, number-none, answer-stage}
-use Rattle.sparsification.proofs.DemandThree.{Doubles, start-normal, start-few, kept-there}
+use Rattle.demand.proofs.DemandThree.{Doubles, start-normal, start-few, kept-there}
 use Rattle.draw.specs.declared.SplitMix64.{SplitMix64}
 
 module _ {rule : Rule} {source : SplitMix64} {matrix : List Float} {m n : ℕ} {w output numbers : List Float} {indices : List ℕ}

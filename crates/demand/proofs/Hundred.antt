@@ -15,13 +15,13 @@ use Rattle.halving.proofs.Fewer.{sum-sound}
 use Rattle.halving.proofs.Quarter.{pass-at-most}
 use Rattle.stages.specs.Stages.{stageOf}
 use Rattle.stages.specs.Stopping.{entriesAt, stops}
 use Rattle.sparsification.specs.Answers.{Thinned}
 use Rattle.sparsification.specs.declared.Answer.{Answer}
 use Rattle.rules.specs.declared.Rule.the-variants.{Target}
 use Rattle.stages.proofs.Halting.{FirstStop}
 use Rattle.sparsification.proofs.Accepting.{accepted, number-none}
-use Rattle.sparsification.proofs.DemandThree.{Doubles, start-normal, start-few}
-use Rattle.sparsification.proofs.Settled.{settled}
+use Rattle.demand.proofs.DemandThree.{Doubles, start-normal, start-few}
+use Rattle.demand.proofs.Settled.{settled}
 use Rattle.draw.specs.declared.SplitMix64.{SplitMix64}
 
 module _ (matrix : ℕ → ℕ → Float) (n : ℕ) (start : List Float) (source : SplitMix64)

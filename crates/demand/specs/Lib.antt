@@ -1,0 +1,2 @@
+-- Two jobs, the second allowing at least as much.
+pub mod Demand
