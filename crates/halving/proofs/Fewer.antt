@@ -12,6 +12,7 @@ use lib.Seq.{take-all}
 use lib.Ieee.{Float, nan, binary64, mul, div, eq, ne}
 use Rattle.seq.specs.Choice.{pick}
 use Rattle.seq.specs.Sums.{plusZero, at}
+use Rattle.seq.proofs.Choosing.{holds}
 use Rattle.seq.proofs.Filling.{length-tab, getD-tab}
 use Rattle.ieee.specs.Magnitude.{absOf}
 use Rattle.ieee.specs.Pass.{Turned, kept, once, again, gone}
@@ -39,10 +40,6 @@ use Rattle.halving.proofs.Zeros.{off-over, plus-zero-off, positive-soun
 -- no test is true and false
 pub never : {t : Bool} → t ≡ true → t ≡ false → ⊥
 never h k = subst T (sym h ∙ k) tt
-
-pub true-of : (t : Bool) → T t → t ≡ true
-true-of true h = refl
-true-of false h = absurd h
 
 -- a zero stays as it is
 pub zero-stays : (w : List Float) (rest : List ℕ) (j : ℕ) (v : Float) → isOn w j ≡ false → Moved w rest j v → v ≡ at w j
@@ -153,7 +150,7 @@ module _ (z : Float) (matrix : ℕ → ℕ → Float) (n : ℕ) (h : Halved) whe
         let off-after : isOn (passOf z matrix n h .w) (g .index) ≡ false = pass-off good (g .index) (g .was .below) off-too in
         rw length-pass
         (count-lt (isOn (passOf z matrix n h .w)) (isOn (h .w)) (length (h .w)) (g .index)
-        (λ j l t. subst T (sym (pass-on good j l (true-of (isOn (passOf z matrix n h .w) j) t))) tt)
+        (λ j l t. subst T (sym (pass-on good j l (holds (isOn (passOf z matrix n h .w) j) t))) tt)
         (g .was .below)
         (subst (λ (b : Bool). T (not b)) (sym off-after) tt)
         (subst T (sym (g .was .on)) tt))

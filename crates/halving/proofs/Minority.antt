@@ -10,6 +10,7 @@ use native.Mathlib.Omega.{arith}
 use lib.Dec.{T, leb}
 use lib.ListN.{length}
 use lib.Ieee.{Float, lt, eq, ofBits}
+use Rattle.seq.proofs.Choosing.{holds}
 use Rattle.seq.specs.Choice.{pick}
 use Rattle.seq.specs.Sums.{plusZero, at}
 use Rattle.seq.specs.Keep.{count}
@@ -88,14 +89,10 @@ at-most-half {k} {x} c = go (leb (2 * count up (length x)) (length x)) refl
     up : ℕ → Bool
     up p = lt plusZero (at x p)
 
-    shown : (t : Bool) → T t → t ≡ true
-    shown true h = refl
-    shown false h = absurd h
-
     go : (t : Bool) → leb (2 * count up (length x)) (length x) ≡ t → 2 * count (λ p. eq (at x p) (pick t one minusOne)) k ≤ k
     go true e =
         let n : count (λ p. eq (at x p) one) k ≤ count up k = count-le (λ p. eq (at x p) one) up k
-        (λ p l h. subst T (sym (is-one (c .each p l) (shown (eq (at x p) one) h))) tt) in
+        (λ p l h. subst T (sym (is-one (c .each p l) (holds (eq (at x p) one) h))) tt) in
         let l : 2 * count up k ≤ k = rw (c .long) at (leb-true (2 * count up (length x)) (length x) e) in
         omega arith
     go false e =

@@ -9,6 +9,7 @@ use lib.Dec.{T}
 use lib.ListN.{length, getD, take, length-append, length-drop}
 use lib.Seq.{getD-take, getD-drop, length-take-le}
 use lib.Ieee.{Float, binary64, mul, eq}
+use Rattle.seq.proofs.Choosing.{holds}
 use Rattle.seq.specs.Choice.{pick}
 use Rattle.seq.specs.Sums.{plusZero, at}
 use Rattle.seq.specs.Keep.{keep}
@@ -26,7 +27,7 @@ use Rattle.halving.proofs.Rest.{length-ranked, length-rest, rest-on, re
 use Rattle.halving.proofs.Fates.{Among, Fate, untouched, touched, coloursOf, fate-once, moved-once}
 use Rattle.halving.proofs.Minority.{at-most-half}
 use Rattle.halving.proofs.Zeros.{plus-zero-off}
-use Rattle.halving.proofs.Fewer.{never, true-of, zero-stays, first, second, sum, long-first, long-second, length-pass, off-stays, pass-off, whole-rest}
+use Rattle.halving.proofs.Fewer.{never, zero-stays, first, second, sum, long-first, long-second, length-pass, off-stays, pass-off, whole-rest}
 use Rattle.halving.proofs.Holding.{Has, has-among, has-at, has-left, has-right, has-those, length-those, no-longer}
 use Rattle.halving.proofs.Heaviest.{ranked-has}
 
@@ -54,7 +55,7 @@ module _ (z : Float) (matrix : ℕ → ℕ → Float) (n : ℕ) (ω : Float) (re
 
       way : (t : Bool) → at after j ≡ pick t (mul binary64 two (at (h .w) j)) plusZero → T t
       way true e = tt
-      way false e = absurd (never (true-of (isOn after j) o) (rw e plus-zero-off))
+      way false e = absurd (never (holds (isOn after j) o) (rw e plus-zero-off))
 
       go : Fate (h .w) r x (sigmaOf x) (length r) j (at after j) → T (eq (at x q) (sigmaOf x))
       go (untouched m e) = absurd (m q l refl)

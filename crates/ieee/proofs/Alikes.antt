@@ -22,9 +22,6 @@ alike-refl x = record { flatly = refl }
 pub alike-of-eq : {x y : Float} → x ≡ y → Alike x y
 alike-of-eq e = record { flatly = ap flat e }
 
-pub alike-sym : {x y : Float} → Alike x y → Alike y x
-alike-sym p = record { flatly = sym (p .flatly) }
-
 pub alike-trans : {x y z : Float} → Alike x y → Alike y z → Alike x z
 alike-trans p q = record { flatly = p .flatly ∙ q .flatly }
 
@@ -87,9 +84,6 @@ le-alike p q = test le le-flat p q
 pub eq-alike : {x x' y y' : Float} → Alike x x' → Alike y y' → eq x y ≡ eq x' y'
 eq-alike p q = test eq eq-flat p q
 
-pub ne-alike : {x x' y y' : Float} → Alike x x' → Alike y y' → ne x y ≡ ne x' y'
-ne-alike p q = test ne ne-flat p q
-
 -- a zero that fits is +0.0 or -0.0
 pub fits-zero : (f : Format) (s : Bool) (e : ℤ) → T (fits f (fin s zero e)) → e ≡ pos 0
 unfolding fits
@@ -125,10 +119,6 @@ unfolding sumFrom
 sum-alike f v w zero p h = p
 sum-alike f v w (suc k) p h = add-alike f (sum-alike f v w k p (λ j l. h j (le-trans l (le-suc k)))) (h k (lt-suc-self k))
 
--- from -0.0, or from +0.0
-pub sum-start : (f : Format) (v : ℕ → Float) (k : ℕ) (s : Bool) → Alike (sumFrom f (fin s 0 (pos 0)) v k) (sumUp f v k)
-sum-start f v k s = sum-alike f v v k (alike-zeros s false) (λ j l. alike-refl (v j))
-
 -- the sums of doubles that the definitions name, from +0.0
 pub sum-up-is : (v : ℕ → Float) (k : ℕ) → sumTo plusZero v k ≡ sumUp binary64 v k
 sum-up-is v k = ap (λ (z : Float). sumFrom binary64 z v k) nought-is
@@ -151,10 +141,6 @@ unfolding aboveOf isNan
 above-picks nan b = refl
 above-picks (inf s) b = refl
 above-picks (fin s m e) b = refl
-
-pub above-alike : {a a' b b' : Float} → Alike a a' → Alike b b' → aboveOf a b ≡ aboveOf a' b'
-above-alike {a} {a'} {b} {b'} p q = above-picks a b ∙ (λ i. pick (nan-alike p i) (not (nan-alike q i)) (lt-alike (abs-alike q) (abs-alike p) i))
-    ∙ sym (above-picks a' b')
 
 pub largest-alike : (v w : ℕ → Float) (k : ℕ) → ((j : ℕ) → j < k → Alike (v j) (w j)) → Alike (largestTo v k) (largestTo w k)
 unfolding largestTo

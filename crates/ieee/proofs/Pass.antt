@@ -133,15 +133,6 @@ stages f k n w stage K h p z s zero l =
     }
 stages f k n w stage K h p z s (suc i) l = step-normal (stages f k n w stage K h p z s i (le-of-lt l)) K (s i l)
 
--- a pass that zeroes an entry of the support leaves strictly fewer
-pub step-fewer : {f : Format} {k : ℕ} {x y : ℕ → Float} → Normal f k x → k ≤ 2 ^ 8 → (s : Step f k x y) → (i : ℕ) → i < k → T
-    (nonzero (x i)) → nonzero (y i) ≡ false
-    → count (λ (j : ℕ). nonzero (y j)) k < count (λ (j : ℕ). nonzero (x j)) k
-step-fewer {f} {k} {x} {y} n K s i l t z =
-    count-lt (λ (j : ℕ). nonzero (y j)) (λ (j : ℕ). nonzero (x j)) k i
-    (λ j m u. pass-signs f k x (s .turned) n (s .each) (step-sum n K s) j m (subst (λ (v : Float). T (nonzero v)) (s .divided j m) u) .nonzero-before)
-    l (subst (λ (b : Bool). T (not b)) (sym z) tt) t
-
 -- ---- the two turns of a pass, as the program makes them: double or zero; then once more where the entry is not zero
 abbrev pub turn : Format → Bool → Float → Float
 turn f c x = pick c (mul f twice x) nought
@@ -154,7 +145,3 @@ turns f true c' x = go (nonzero (mul f twice x)) c'
     go true false = gone
     go false c' = once
 turns f false c' x = unfold ne eq in gone
-
-pub turned-once : (f : Format) (c : Bool) (x : Float) → Turned f x (turn f c x)
-turned-once f true x = once
-turned-once f false x = gone

@@ -216,5 +216,3 @@ div-at-least {f} {w} {y} k p q K h =
     (le-of-eq (sym (div-units p q .size-is)))
 
 -- ---- so an entry that is nonzero after "double or zero, then divide" was nonzero before, with the same sign
-pub after-division : {f : Format} {w x y : Float} → Number f w → Finite f x → Follows f w x → Positive f y → T (nonzero (div f x y)) → SameSign w (div f x y)
-after-division p q h y t = same-sign p (div-number q y) (follows-trans h (follows-div q y)) t
