@@ -57,10 +57,11 @@ fn doubles(votes: &[Vec<bool>]) -> Vec<Vec<f64>> {
 }
 
 /// Every bit of an answer.
-fn every_bit(thinned: &Thinned) -> (Vec<u64>, [usize; 4], u64, Vec<(usize, u64)>) {
-    let weights = thinned.weights.iter().map(|weight| weight.to_bits()).collect();
-    let path = thinned.path.iter().map(|(left, change)| (*left, change.to_bits())).collect();
-    (weights, [thinned.stage, thinned.nonzeros, thinned.directions, thinned.sweeps], thinned.change.to_bits(), path)
+fn every_bit(thinned: &Thinned) -> Vec<u64> {
+    let counts = [thinned.stage, thinned.nonzeros, thinned.directions, thinned.sweeps, thinned.path.len()].map(|count| count as u64);
+    let path = thinned.path.iter().flat_map(|(left, change)| [*left as u64, change.to_bits()]);
+    let weights = thinned.weights.iter().map(|weight| weight.to_bits());
+    counts.into_iter().chain([thinned.change.to_bits()]).chain(path).chain(weights).collect()
 }
 
 /// The four calls on votes and on the doubles that they stand for.
@@ -177,8 +178,8 @@ fn sizes_and_lengths() {
 /// Each spare bit of each column by itself, and no bit that is not spare.
 #[test]
 fn spare_bits() {
-    for n in 1..=17 {
-        let (m, stride) = (3usize, (n + 7) / 8);
+    for n in 1..=17usize {
+        let (m, stride) = (3, n.div_ceil(8));
         for place in 0..8 * m * stride {
             let mut bits = vec![0; m * stride];
             bits[place / 8] |= 1 << (place % 8);
@@ -375,7 +376,8 @@ fn the_order_of_refusals() {
 /// Each list that has another length by itself, and each number that names no rule.
 #[test]
 fn other_lengths_and_rules() {
-    let wrong: [(fn(&mut Call), [u64; 6]); 7] = [
+    type Spoil = fn(&mut Call);
+    let wrong: [(Spoil, [u64; 6]); 7] = [
         (|call| call.bits.push(0), [4; 6]),
         (|call| call.bits.truncate(1), [4; 6]),
         (|call| call.weights.push(1.0), [4, 4, 4, 0, 4, 4]),
@@ -409,4 +411,9 @@ fn forms_that_are_taken() {
     assert_eq!(of(color(&std::rc::Rc::new(votes.clone()), 3)), expected);
     assert_eq!(of(color(&std::sync::Arc::<[Vec<f64>]>::from(columns), 3)), expected);
     assert_eq!(of(color(&&votes, 3)), expected);
+    // Nothing at all, and the function of the original's shape.
+    let job = Job { seed: 0, edition: Edition::First, rule: Rule::Target(1) };
+    assert_eq!(thin(&[], &[], job), Err(Refusal::Empty));
+    let change: fn(&[Vec<f64>], &[f64], &[f64]) -> Result<f64, Refusal> = max_margin_change;
+    assert_eq!(change(&[vec![1.0]], &[1.0], &[0.5]), Ok(0.5));
 }
