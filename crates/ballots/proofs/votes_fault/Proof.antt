@@ -58,7 +58,8 @@ returns-4 c =
     let a = at-rule-fault .before .before .before .args in
     spare-refused (a .rule) (a .edition) (a .bits .now) (a .m) (a .n) (a .weights .now) (a .output) (a .numbers) (a .indices)
     (at-rule-fault .rule-fault .ensures) (at-if1 .if1 .left) (at-edition-fault .edition-fault .ensures) (at-if2 .if2 .left)
-    (at-bytes-fault .bytes-fault .ensures) (at-if3 .if3 .left) (sym (c .before .spare-clear .ensures) ∙ not-true (c .before .spare-clear .result) (c .if4 .taken))
+    (at-bytes-fault .bytes-fault .ensures) (at-if3 .if3 .left)
+    (sym (c .before .spare-clear .ensures) ∙ not-true (c .before .spare-clear .result) (c .if4 .taken))
 
 weight-fault-requires : tie.Need-weight-fault-requires
 weight-fault-requires c κs = search needs
