@@ -1,40 +1,31 @@
 -- Thinning from bits is thinning from the doubles that they stand for: where the bytes are as many as m and n say and no spare bit is set, it is refused by
 -- the same number, and gives the same answer, output and scratch.
 use borrow.Author.Tests.{eqb-true, eq-eqb, not-false}
-use Prim.Native.Nat.{ℕ, _+_, _*_, _/_, _%_, _≤_, _<_}
+use Prim.Native.Nat.{ℕ, _*_, _≤_}
 use mathlib.Core.Path.{_≡_, refl, sym, ap, ap₂, _∙_}
 use mathlib.Core.Bool.{Bool, true, false, not, _||_}
 use mathlib.Core.List.{List}
 use native.Mathlib.Omega.{arith}
 use lib.Dec.{eqb}
-use lib.IntN.{pos}
 use lib.ListN.{length}
-use lib.Ieee.{Float, fin, nan, le, lt, eq, ofBits}
+use lib.Ieee.{Float}
 use Rattle.seq.specs.Choice.{pick, orElse}
-use Rattle.seq.specs.Sums.{at}
 use Rattle.seq.proofs.Choosing.{neither}
-use Rattle.seq.proofs.Every.{every-holds}
-use Rattle.seq.proofs.Filling.{getD-tab}
 use Rattle.ieee.specs.Constants.{one}
-use Rattle.ieee.specs.Magnitude.{absOf}
-use Rattle.limits.specs.Limits.{tooLarge, bounded}
-use Rattle.limits.specs.Votes.{bytesOf, bitAt, votesOf, spareClear, spareFault, expanded}
+use Rattle.limits.specs.Limits.{tooLarge}
+use Rattle.limits.specs.Votes.{bytesOf, spareClear, spareFault, expanded}
 use Rattle.limits.proofs.Sizes.{small}
-use Rattle.limits.proofs.ReadsAs.{length-expanded, expanded-bounded}
+use Rattle.limits.proofs.ReadsAs.{length-expanded}
 use Rattle.rules.specs.Rules.{ruleFault}
 use Rattle.rules.specs.declared.Rule.{Rule}
 use Rattle.draw.specs.declared.SplitMix64.{SplitMix64}
 use Rattle.faults.specs.Faults.{editionFault, roomFault, sizeFault, weightFault, valueFault, jobFault}
 use Rattle.faults.proofs.Whole.{no-fault}
+use Rattle.faults.proofs.AsDoubles.{votes-bounded}
 use Rattle.sparsification.specs.Answers.{Thinned, answerOf, refusal}
 use Rattle.sparsification.specs.declared.Answer.{Answer}
 use Rattle.ballots.specs.Refusals.{bytesFault, votesFault}
 use Rattle.ballots.specs.Ballots.{BitsThinned}
-
--- a vote is at most 1 in magnitude
-vote-within : (set : Bool) → le (absOf (fin set 1 (pos 0))) one ≡ true
-unfolding ofBits le lt eq
-vote-within set = refl
 
 module _ (bits : List ℕ) (m n : ℕ) where
   module _ (whole : length bits ≡ m * bytesOf n) (w : List Float) (output numbers indices : ℕ) where
@@ -45,7 +36,7 @@ module _ (bits : List ℕ) (m n : ℕ) where
 
     values-agree : spareClear bits m n ≡ true → orElse (spareFault bits m n) (weightFault w) ≡ valueFault (expanded bits m n) w
     unfolding valueFault
-    values-agree clear = rw (clear, expanded-bounded bits m n one vote-within) refl
+    values-agree clear = rw (clear, votes-bounded bits m n) refl
 
     -- both calls have one number
     pub faults-agree : spareClear bits m n ≡ true → (rule : Rule) (edition : ℕ)

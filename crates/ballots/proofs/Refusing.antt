@@ -1,27 +1,17 @@
 -- The number that a thinning from bits is refused by, for each way that the tests go in order.
 use borrow.Author.Tests.{eq-eqb, ne-eqb}
-use Prim.Native.Nat.{ℕ, _*_, _≤_}
+use Prim.Native.Nat.{ℕ, _*_}
 use mathlib.Core.Path.{_≡_}
 use mathlib.Core.Bool.{true, false}
 use mathlib.Core.List.{List}
-use native.Mathlib.Nat.{mul-le-mul}
-use native.Mathlib.Omega.{arith}
 use lib.ListN.{length}
 use lib.Ieee.{Float}
 use Rattle.limits.specs.Limits.{tooLarge}
 use Rattle.limits.specs.Votes.{bytesOf, spareClear}
-use Rattle.limits.proofs.Sizes.{small}
 use Rattle.rules.specs.Rules.{ruleFault}
 use Rattle.rules.specs.declared.Rule.{Rule}
 use Rattle.faults.specs.Faults.{editionFault, roomFault, weightFault}
 use Rattle.ballots.specs.Refusals.{bytesFault, votesFault}
-
--- a matrix that is not too large has few bytes
-pub few-bytes : (m n : ℕ) → tooLarge m n ≡ false → m * bytesOf n ≤ 256 * 512
-few-bytes m n h =
-    let s = small m n h in
-    let rows : bytesOf n ≤ 512 = omega (arith, s .rows) in
-    mul-le-mul (s .columns) rows
 
 -- ---- the sizes
 module _ (m n bytes weights output numbers indices : ℕ) where

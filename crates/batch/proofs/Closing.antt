@@ -2,7 +2,6 @@
 use Prim.Native.Nat.{ℕ}
 use mathlib.Core.Path.{_≡_, sym, ap, _∙_}
 use mathlib.Core.List.{List}
-use lib.Dec.{eqb}
 use lib.ListN.{length}
 use lib.Ieee.{Float}
 use borrow.Author.Tests.{ne-eqb}
@@ -11,7 +10,7 @@ use Rattle.seq.specs.Sums.{plusZero}
 use Rattle.seq.proofs.Filling.{length-tab}
 use Rattle.sparsification.specs.Answers.{refusal}
 use Rattle.batch.specs.Items.{Items}
-use Rattle.batch.specs.All.{callFault, ThinnedAll}
+use Rattle.batch.specs.All.{callFault, AllThinned}
 use Rattle.batch.specs.Between.{Zeros, Each}
 use Rattle.batch.specs.declared.Answers.{Answers}
 
@@ -21,11 +20,11 @@ cleared z k e = ap length e ∙ length-tab (λ i. z) k
 
 module _ (matrix : List Float) (m n items : ℕ) (list : Items) (output numbers : List Float) (indices : List ℕ) where
   -- refused
-  pub all-refused : {k : ℕ} {r : Answers} → k ≡ callFault matrix m n items list (length output) (length numbers) (length indices) → (k ≡ 0 → ⊥)
-      → r .number ≡ k → r .items ≡ repeated (refusal 0) 64 → ThinnedAll matrix m n items list output numbers indices r output numbers indices
-  all-refused {k} e h number answers =
+  pub all-refused : {k : ℕ} {r : Answers} → (k ≡ 0 → ⊥) → r .number ≡ k → r .items ≡ repeated (refusal 0) 64
+      → AllThinned k matrix m n items list output numbers indices r output numbers indices
+  all-refused {k} h number answers =
       record {
-        number = number ∙ e;
+        number = number;
         answers = answers ∙ sym (rw (number, ne-eqb k 0 h));
         writes = sym (rw (number, ne-eqb k 0 h));
         floats = sym (rw (number, ne-eqb k 0 h));
@@ -46,9 +45,9 @@ module _ (matrix : List Float) (m n items : ℕ) (list : Items) (output numbers 
     )
 
     -- and every item done
-    pub all-done : callFault matrix m n items list (length output) (length numbers) (length indices) ≡ 0
+    pub all-done : {k : ℕ} → k ≡ 0
         → {r : Answers} {output' numbers' : List Float} {indices' : List ℕ} → Each matrix m n items list output numbers₁ indices₁ r output' numbers' indices'
-        → ThinnedAll matrix m n items list output numbers indices r output' numbers' indices'
+        → AllThinned k matrix m n items list output numbers indices r output' numbers' indices'
     all-done none each =
         let e = cleared plusZero (length numbers) floats in
         let f = cleared 0 (length indices) words in

@@ -1,7 +1,9 @@
 -- The laws of a call for several items.
 pub mod Joining
 pub mod Turns
+pub mod Lending
 pub mod Closing
 pub mod Singles
 pub mod SoleAll
 pub mod AmongItems
+pub mod AsDoubles

@@ -1,7 +1,7 @@
 -- Each item of a call that is not refused as a whole has what the single call gives on its own: its answer, and its part of the output.
 use Prim.Native.Nat.{ℕ, _*_, _-_, _<_}
 use mathlib.Core.Path.{_≡_, refl, sym, ap, _∙_}
-use mathlib.Core.List.{List, _++_}
+use mathlib.Core.List.{List}
 use lib.Dec.{eqb}
 use lib.ListN.{length, getD, List·getD-append}
 use lib.Ieee.{Float}
@@ -9,25 +9,21 @@ use Rattle.seq.specs.Choice.{pick}
 use Rattle.seq.specs.Lists.{tabulate, repeated, part}
 use Rattle.seq.specs.Sums.{plusZero}
 use Rattle.seq.proofs.Filling.{length-tab, getD-tab}
-use Rattle.faults.proofs.Whole.{whole}
 use Rattle.sparsification.specs.Answers.{refusal, Thinned}
 use Rattle.sparsification.specs.declared.Answer.{Answer}
 use Rattle.sparsification.proofs.Sole.{sole}
 use Rattle.batch.specs.Items.{Items, weightsAt, sourceAt, ruleAt, itemAnswer, itemOutput}
-use Rattle.batch.specs.All.{joined, answersOf, callFault, ThinnedAll}
+use Rattle.batch.specs.All.{joined, answersOf, ThinnedAll}
 use Rattle.batch.specs.declared.Answers.{Answers}
 use Rattle.batch.proofs.Joining.{part-joined}
-use Rattle.batch.proofs.Turns.{Called, output-long, item-long}
+use Rattle.batch.proofs.Turns.{Called, called-of, output-long, item-long}
 
 module _ {matrix : List Float} {m n items : ℕ} {list : Items} {output numbers : List Float} {indices : List ℕ}
     {r : Answers} {output' numbers' : List Float} {indices' : List ℕ}
     (job : ThinnedAll matrix m n items list output numbers indices r output' numbers' indices') (taken : r .number ≡ 0) where
   -- such a call has its sizes and its lists
   pub called : Called matrix m n items list output numbers indices
-  called = record {
-    sized = whole items matrix m n (length (list .weights)) (length (list .seeds)) (length (list .editions)) (length (list .rules))
-        (length (list .allowances)) (length (list .limits)) (length output) (length numbers) (length indices) (sym (job .number) ∙ taken);
-  }
+  called = called-of matrix m n items list output numbers indices (sym (job .number) ∙ taken)
 
   -- item k's answer
   abbrev pub answerFor : ℕ → Answer

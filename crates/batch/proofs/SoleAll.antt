@@ -11,7 +11,7 @@ use Rattle.seq.specs.Sums.{plusZero}
 use Rattle.sparsification.specs.Answers.{refusal}
 use Rattle.sparsification.specs.declared.Answer.{Answer}
 use Rattle.batch.specs.Items.{Items, itemAnswer, itemOutput}
-use Rattle.batch.specs.All.{joined, answersOf, ThinnedAll}
+use Rattle.batch.specs.All.{joined, answersOf, AllThinned, ThinnedAll, BitsThinnedAll}
 use Rattle.batch.specs.declared.Answers.{Answers}
 
 pub record SameAll (r s : Answers) (output output' numbers numbers' : List Float) (indices indices' : List ℕ) : Type 0 where
@@ -25,12 +25,12 @@ same-answers : (r s : Answers) → r .number ≡ s .number → r .items ≡ s .i
 same-answers r s e f =
     ap (λ (k : ℕ). record { number = k; items = r .items }) e ∙ ap (λ (xs : List Answer). record { number = s .number; items = xs }) f
 
-pub sole-all : {matrix : List Float} {m n items : ℕ} {list : Items} {output numbers : List Float} {indices : List ℕ}
+pub sole-of : {fault : ℕ} {matrix : List Float} {m n items : ℕ} {list : Items} {output numbers : List Float} {indices : List ℕ}
     {r s : Answers} {output' output'' numbers' numbers'' : List Float} {indices' indices'' : List ℕ}
-    → ThinnedAll matrix m n items list output numbers indices r output' numbers' indices'
-    → ThinnedAll matrix m n items list output numbers indices s output'' numbers'' indices''
+    → AllThinned fault matrix m n items list output numbers indices r output' numbers' indices'
+    → AllThinned fault matrix m n items list output numbers indices s output'' numbers'' indices''
     → SameAll r s output' output'' numbers' numbers'' indices' indices''
-sole-all {matrix} {m} {n} {items} {list} {output} {numbers} {indices} {r} {s} p q =
+sole-of {fault} {matrix} {m} {n} {items} {list} {output} {numbers} {indices} {r} {s} p q =
     let e : r .number ≡ s .number = p .number ∙ sym (q .number) in
     record {
       answer = same-answers r s e (p .answers
@@ -41,3 +41,19 @@ sole-all {matrix} {m} {n} {items} {list} {output} {numbers} {indices} {r} {s} p 
       floats = p .floats ∙ ap (λ (k : ℕ). pick (eqb k 0) (repeated plusZero (length numbers)) numbers) e ∙ sym (q .floats);
       words = p .words ∙ ap (λ (k : ℕ). pick (eqb k 0) (repeated 0 (length indices)) indices) e ∙ sym (q .words);
     }
+
+-- of a call on doubles
+pub sole-all : {matrix : List Float} {m n items : ℕ} {list : Items} {output numbers : List Float} {indices : List ℕ}
+    {r s : Answers} {output' output'' numbers' numbers'' : List Float} {indices' indices'' : List ℕ}
+    → ThinnedAll matrix m n items list output numbers indices r output' numbers' indices'
+    → ThinnedAll matrix m n items list output numbers indices s output'' numbers'' indices''
+    → SameAll r s output' output'' numbers' numbers'' indices' indices''
+sole-all = sole-of
+
+-- and of one on bits
+pub sole-all-bits : (bits : List ℕ) {m n items : ℕ} {list : Items} {output numbers : List Float} {indices : List ℕ}
+    {r s : Answers} {output' output'' numbers' numbers'' : List Float} {indices' indices'' : List ℕ}
+    → BitsThinnedAll bits m n items list output numbers indices r output' numbers' indices'
+    → BitsThinnedAll bits m n items list output numbers indices s output'' numbers'' indices''
+    → SameAll r s output' output'' numbers' numbers'' indices' indices''
+sole-all-bits bits = sole-of

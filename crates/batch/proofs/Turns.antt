@@ -1,19 +1,21 @@
 -- What a call for several items holds after i of them, and after one more: the single call's answer at its place, the single call's output in its part,
 -- and a scratch of zeros.
-use Prim.Native.Nat.{ℕ, suc, _+_, _*_, _-_, _≤_, _<_}
-use mathlib.Core.Path.{_≡_, refl, sym, ap, _∙_}
+use Prim.Native.Nat.{ℕ, _+_, _*_, _-_, _≤_, _<_}
+use mathlib.Core.Path.{_≡_, ap, _∙_}
 use mathlib.Core.Bool.{Bool, true, false}
-use mathlib.Core.List.{List, [], _++_}
+use mathlib.Core.List.{List}
 use native.Mathlib.Nat.{mul-le-mul-right}
 use native.Mathlib.Omega.{arith}
 use lib.Dec.{eqb}
 use lib.ListN.{length, set, drop, length-append, length-drop}
 use lib.Ieee.{Float}
 use Rattle.seq.specs.Choice.{pick}
-use Rattle.seq.specs.Lists.{tabulate, repeated, part, placed}
+use Rattle.seq.specs.Lists.{repeated, part, placed}
 use Rattle.seq.specs.Sums.{plusZero}
 use Rattle.seq.proofs.Filling.{Filled, start, turn, room, length-tab}
 use Rattle.seq.proofs.Parts.{length-part}
+use Rattle.ieee.specs.Constants.{one}
+use Rattle.limits.specs.Limits.{bounded}
 use Rattle.limits.specs.Matrix.{columnsOf}
 use Rattle.weights.specs.Weights.{normalized}
 use Rattle.stages.proofs.Lengths.{length-stage, length-normalized}
@@ -21,19 +23,27 @@ use Rattle.limits.proofs.Sizes.{small}
 use Rattle.draw.specs.declared.SplitMix64.{SplitMix64}
 use Rattle.rules.specs.declared.Rule.{Rule}
 use Rattle.faults.specs.Faults.{sizeFault}
-use Rattle.faults.proofs.Whole.{Whole, item-sized}
+use Rattle.faults.proofs.Whole.{Fits, whole, item-sized}
 use Rattle.sparsification.specs.Answers.{refusal, stopFor, returned, Thinned}
 use Rattle.sparsification.specs.declared.Answer.{Answer}
 use Rattle.batch.specs.Items.{Items, weightsAt, sourceAt, ruleAt, itemAnswer, itemOutput}
-use Rattle.batch.specs.All.{joined, answersOf}
+use Rattle.batch.specs.All.{joined, callFault}
 use Rattle.batch.specs.Between.{Each}
 use Rattle.batch.specs.declared.Answers.{Answers}
 use Rattle.batch.proofs.Joining.{drop-repeated, length-joined, putIn, none-in, next-place, one-more, all-in}
 
--- the sizes and the lists of a call that is not refused as a whole
+-- the sizes, the lists and the entries of a call that is not refused as a whole
 pub record Called (matrix : List Float) (m n items : ℕ) (list : Items) (output numbers : List Float) (indices : List ℕ) : Type 0 where
-  pub sized : Whole items matrix m n (length (list .weights)) (length (list .seeds)) (length (list .editions)) (length (list .rules))
+  pub sized : Fits items m n (m * n) (length matrix) (length (list .weights)) (length (list .seeds)) (length (list .editions)) (length (list .rules))
       (length (list .allowances)) (length (list .limits)) (length output) (length numbers) (length indices)
+  pub entries : bounded one matrix ≡ true
+
+pub called-of : (matrix : List Float) (m n items : ℕ) (list : Items) (output numbers : List Float) (indices : List ℕ)
+    → callFault matrix m n items list (length output) (length numbers) (length indices) ≡ 0 → Called matrix m n items list output numbers indices
+called-of matrix m n items list output numbers indices none =
+    let w = whole items matrix m n (length (list .weights)) (length (list .seeds)) (length (list .editions)) (length (list .rules))
+    (length (list .allowances)) (length (list .limits)) (length output) (length numbers) (length indices) none in
+    record { sized = w .0; entries = w .1 }
 
 -- from a to a + m there are m places
 pub span : (a m : ℕ) → a + m - a ≡ m

@@ -1,4 +1,4 @@
--- Told between functions: a scratch of zeros, and what the items leave one after the other.
+-- Told between functions: a call that was tested, a scratch of zeros, and what the items leave one after the other.
 use Prim.Native.Nat.{ℕ}
 use mathlib.Core.Path.{_≡_}
 use mathlib.Core.List.{List}
@@ -7,8 +7,15 @@ use lib.Ieee.{Float}
 use Rattle.seq.specs.Lists.{repeated}
 use Rattle.seq.specs.Sums.{plusZero}
 use Rattle.batch.specs.Items.{Items, itemAnswer, itemOutput}
-use Rattle.batch.specs.All.{joined, answersOf}
+use Rattle.batch.specs.All.{joined, callFault, answersOf}
+use Rattle.batch.specs.Lent.{lentAs, Lent}
 use Rattle.batch.specs.declared.Answers.{Answers}
+
+-- with number 0 the call has no fault on the doubles that its matrix stands for, and the matrix is lent whole
+pub record Tested (number : ℕ) (matrix : List Float) (bits : List ℕ) (m n items : ℕ) (list : Items)
+    (output numbers indices : ℕ) : Type 0 where
+  pub fine : number ≡ 0 → callFault (lentAs matrix bits m n) m n items list output numbers indices ≡ 0
+  pub lent : number ≡ 0 → Lent matrix bits m n
 
 -- the scratch is zero
 pub record Zeros (numbers : List Float) (indices : List ℕ) : Type 0 where

@@ -1,5 +1,6 @@
 // Several jobs on one matrix, in one call: the matrix is tested once, and each item has what thin gives on its own.
 use draw::SplitMix64;
+use faults::bits_whole_fault;
 use faults::item_fault;
 use faults::named_rule;
 use faults::whole_fault;
@@ -13,14 +14,14 @@ ghost use mathlib.Core.Path.{_≡_};
 ghost use mathlib.Core.Bool.{true};
 ghost use lib.ListN.{length};
 ghost use Rattle.seq.specs.Lists.{repeated};
-ghost use Rattle.seq.specs.Sums.{plusZero};
 ghost use Rattle.ieee.specs.Constants.{one};
 ghost use Rattle.limits.specs.Limits.{bounded};
 ghost use Rattle.faults.specs.Faults.{sizeFault};
 ghost use Rattle.sparsification.specs.Answers.{refusal, Thinned};
-ghost use Rattle.batch.specs.All.{callFault, ThinnedAll};
+ghost use Rattle.batch.specs.All.{callFault, AllThinned, ThinnedAll, BitsThinnedAll};
 ghost use Rattle.batch.specs.Items.{listed};
-ghost use Rattle.batch.specs.Between.{Zeros, Each};
+ghost use Rattle.batch.specs.Lent.{lentAs, Lent};
+ghost use Rattle.batch.specs.Between.{Tested, Zeros, Each};
 
 // The refusal number of the call as a whole or 0, and the answer of each item; zeros past the last.
 #[repr(C)]
@@ -43,6 +44,7 @@ fn no_answers(number: u64) -> Answers
 // Thins one item, of a call whose sizes and matrix have been tested.
 fn thin_item(
     matrix: &[f64],
+    bits: &[u8],
     m: usize,
     n: usize,
     weights: &[f64],
@@ -52,20 +54,21 @@ fn thin_item(
     numbers: &mut [f64],
     indices: &mut [u32],
 ) -> Answer
-    requires { ⌜ (sizeFault m n (length (now matrix)) (length (now weights)) (length (now output)) (length (now numbers))
-        (length (now indices)) ≡ 0) × (bounded one (now matrix) ≡ true) ⌝ }
-    ensures { λ r. ⌜ Thinned rule source (now (matrix .entry)) m n (now (weights .entry)) (now (output .entry))
-        (now (numbers .entry)) (now (indices .entry)) r (now (output .exit)) (now (numbers .exit)) (now (indices .exit)) ⌝ }
+    requires { ⌜ Lent (now matrix) (now bits) m n × (sizeFault m n (length (lentAs (now matrix) (now bits) m n)) (length (now weights))
+        (length (now output)) (length (now numbers)) (length (now indices)) ≡ 0)
+        × (bounded one (lentAs (now matrix) (now bits) m n) ≡ true) ⌝ }
+    ensures { λ r. ⌜ Thinned rule source (lentAs (now (matrix .entry)) (now (bits .entry)) m n) m n (now (weights .entry))
+        (now (output .entry)) (now (numbers .entry)) (now (indices .entry)) r (now (output .exit)) (now (numbers .exit))
+        (now (indices .exit)) ⌝ }
 {
     let number = item_fault(rule, source.edition, weights);
     if number != 0 {
         return refused(number);
     }
-    let none = [0u8; 0];
     let mut start = [0.0f64; 256];
     thin_sound(
         matrix,
-        &none[..],
+        bits,
         n,
         weights,
         &mut start[..m],
@@ -80,6 +83,7 @@ fn thin_item(
 // Thins item after item, each on its parts of the weights and the output; the scratch is zero before and after each.
 fn thin_items(
     matrix: &[f64],
+    bits: &[u8],
     m: usize,
     n: usize,
     items: usize,
@@ -93,11 +97,13 @@ fn thin_items(
     numbers: &mut [f64],
     indices: &mut [u32],
 ) -> Answers
-    requires { ⌜ (callFault (now matrix) m n items (listed (now weights) (now seeds) (now editions) (now rules) (now allowances)
-        (now limits)) (length (now output)) (length (now numbers)) (length (now indices)) ≡ 0) × Zeros (now numbers) (now indices) ⌝ }
-    ensures { λ r. ⌜ Each (now (matrix .entry)) m n items (listed (now (weights .entry)) (now (seeds .entry)) (now (editions .entry))
-        (now (rules .entry)) (now (allowances .entry)) (now (limits .entry))) (now (output .entry)) (now (numbers .entry))
-        (now (indices .entry)) r (now (output .exit)) (now (numbers .exit)) (now (indices .exit)) ⌝ }
+    requires { ⌜ Lent (now matrix) (now bits) m n × (callFault (lentAs (now matrix) (now bits) m n) m n items (listed (now weights)
+        (now seeds) (now editions) (now rules) (now allowances) (now limits)) (length (now output)) (length (now numbers))
+        (length (now indices)) ≡ 0) × Zeros (now numbers) (now indices) ⌝ }
+    ensures { λ r. ⌜ Each (lentAs (now (matrix .entry)) (now (bits .entry)) m n) m n items (listed (now (weights .entry))
+        (now (seeds .entry)) (now (editions .entry)) (now (rules .entry)) (now (allowances .entry)) (now (limits .entry)))
+        (now (output .entry)) (now (numbers .entry)) (now (indices .entry)) r (now (output .exit)) (now (numbers .exit))
+        (now (indices .exit)) ⌝ }
 {
     let mut answers = no_answers(0);
     let mut i = 0usize;
@@ -106,6 +112,7 @@ fn thin_items(
         let e = a + m;
         let answer = thin_item(
             matrix,
+            bits,
             m,
             n,
             &weights[a..e],
@@ -119,6 +126,54 @@ fn thin_items(
         i += 1;
     }
     answers
+}
+
+// Thins the items of a call whose number is 0, on a scratch that is wiped first, and refuses another.
+fn thin_tested(
+    number: u64,
+    matrix: &[f64],
+    bits: &[u8],
+    m: usize,
+    n: usize,
+    items: usize,
+    weights: &[f64],
+    seeds: &[u64],
+    editions: &[u32],
+    rules: &[u32],
+    allowances: &[f64],
+    limits: &[u64],
+    output: &mut [f64],
+    numbers: &mut [f64],
+    indices: &mut [u32],
+) -> Answers
+    requires { ⌜ Tested number (now matrix) (now bits) m n items (listed (now weights) (now seeds) (now editions) (now rules)
+        (now allowances) (now limits)) (length (now output)) (length (now numbers)) (length (now indices)) ⌝ }
+    ensures { λ r. ⌜ AllThinned number (lentAs (now (matrix .entry)) (now (bits .entry)) m n) m n items
+        (listed (now (weights .entry)) (now (seeds .entry)) (now (editions .entry))
+        (now (rules .entry)) (now (allowances .entry)) (now (limits .entry))) (now (output .entry)) (now (numbers .entry))
+        (now (indices .entry)) r (now (output .exit)) (now (numbers .exit)) (now (indices .exit)) ⌝ }
+{
+    if number != 0 {
+        return no_answers(number);
+    }
+    clear(&mut numbers[..]);
+    clear_words(&mut indices[..]);
+    thin_items(
+        matrix,
+        bits,
+        m,
+        n,
+        items,
+        weights,
+        seeds,
+        editions,
+        rules,
+        allowances,
+        limits,
+        output,
+        numbers,
+        indices,
+    )
 }
 
 // Thins each item as its job says, all on one matrix.
@@ -156,13 +211,66 @@ pub fn thin_all(
         numbers.len(),
         indices.len(),
     );
-    if number != 0 {
-        return no_answers(number);
-    }
-    clear(&mut numbers[..]);
-    clear_words(&mut indices[..]);
-    thin_items(
+    let none = [0u8; 0];
+    thin_tested(
+        number,
         matrix,
+        &none[..],
+        m,
+        n,
+        items,
+        weights,
+        seeds,
+        editions,
+        rules,
+        allowances,
+        limits,
+        output,
+        numbers,
+        indices,
+    )
+}
+
+// The same on a matrix of votes, one bit a margin.
+pub fn thin_all_bits(
+    bits: &[u8],
+    m: usize,
+    n: usize,
+    items: usize,
+    weights: &[f64],
+    seeds: &[u64],
+    editions: &[u32],
+    rules: &[u32],
+    allowances: &[f64],
+    limits: &[u64],
+    output: &mut [f64],
+    numbers: &mut [f64],
+    indices: &mut [u32],
+) -> Answers
+    ensures { λ r. ⌜ BitsThinnedAll (now (bits .entry)) m n items (listed (now (weights .entry)) (now (seeds .entry))
+        (now (editions .entry)) (now (rules .entry)) (now (allowances .entry)) (now (limits .entry))) (now (output .entry))
+        (now (numbers .entry)) (now (indices .entry)) r (now (output .exit)) (now (numbers .exit)) (now (indices .exit)) ⌝ }
+{
+    let number = bits_whole_fault(
+        items,
+        bits,
+        m,
+        n,
+        weights.len(),
+        seeds.len(),
+        editions.len(),
+        rules.len(),
+        allowances.len(),
+        limits.len(),
+        output.len(),
+        numbers.len(),
+        indices.len(),
+    );
+    let none = [0.0f64; 0];
+    thin_tested(
+        number,
+        &none[..],
+        bits,
         m,
         n,
         items,

@@ -1,3 +1,4 @@
 -- The laws of what a job is refused for.
 pub mod Refusing
 pub mod Whole
+pub mod AsDoubles

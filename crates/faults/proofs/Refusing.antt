@@ -4,12 +4,14 @@ use mathlib.Core.Path.{_≡_}
 use mathlib.Core.Bool.{true, false}
 use mathlib.Core.List.{List}
 use native.Mathlib.Nat.{mul-le-mul}
+use native.Mathlib.Omega.{arith}
 use lib.ListN.{length}
 use lib.Ieee.{Float, lt}
 use lib.Ieee.Scale.{finite}
 use borrow.Author.Tests.{eq-eqb, ne-eqb}
 use Rattle.seq.specs.Sums.{plusZero}
 use Rattle.limits.specs.Limits.{tooLarge, scratchShort, bounded, allFinite}
+use Rattle.limits.specs.Votes.{bytesOf}
 use Rattle.ieee.specs.Constants.{one}
 use Rattle.weights.specs.Weights.{l1Of}
 use Rattle.limits.proofs.Sizes.{small}
@@ -20,6 +22,13 @@ use Rattle.rules.specs.declared.Rule.{Rule}
 -- a matrix that is not too large has few entries
 pub few-entries : (m n : ℕ) → tooLarge m n ≡ false → m * n ≤ 256 * 4096
 few-entries m n h = let s = small m n h in mul-le-mul (s .columns) (s .rows)
+
+-- and few bytes where it is one of bits
+pub few-bytes : (m n : ℕ) → tooLarge m n ≡ false → m * bytesOf n ≤ 256 * 512
+few-bytes m n h =
+    let s = small m n h in
+    let rows : bytesOf n ≤ 512 = omega (arith, s .rows) in
+    mul-le-mul (s .columns) rows
 
 module _ (m n matrix weights output numbers indices : ℕ) where
   pub large-refused : tooLarge m n ≡ true → 3 ≡ sizeFault m n matrix weights output numbers indices

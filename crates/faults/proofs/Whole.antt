@@ -1,8 +1,8 @@
 -- The number that a call for several items is refused by as a whole, for each way that the tests go in order; and what it has to do with the single
 -- call's: a call for one item and that item's own tests have together the single call's number, and in a call that is not refused as a whole each
 -- item's own tests have it alone.
-use Prim.Native.Nat.{ℕ, zero, suc, _*_, _≤_, _<_}
-use mathlib.Core.Path.{_≡_, refl, ap, _∙_}
+use Prim.Native.Nat.{ℕ, zero, suc, _*_, _≤_}
+use mathlib.Core.Path.{_≡_, refl, sym, ap, _∙_}
 use mathlib.Core.Bool.{Bool, true, false, not, _||_}
 use mathlib.Core.List.{List}
 use native.Mathlib.Nat.{one-mul}
@@ -10,52 +10,65 @@ use native.Mathlib.Omega.{arith}
 use lib.Dec.{eqb, ltb, eqb·suc-zero}
 use lib.ListN.{length}
 use lib.Ieee.{Float}
-use borrow.Author.Tests.{eq-eqb, ne-eqb, eqb-true, lt-ltb, le-ltb, ltb-false, not-false}
+use borrow.Author.Tests.{eq-eqb, ne-eqb, eqb-true, ltb-false, not-false}
 use Rattle.seq.specs.Choice.{pick, orElse}
 use Rattle.seq.proofs.Choosing.{neither}
 use Rattle.limits.specs.Limits.{tooLarge, bounded}
+use Rattle.limits.specs.Votes.{bytesOf, spareClear, spareFault}
+use Rattle.limits.proofs.Sizes.{small}
 use Rattle.ieee.specs.Constants.{one}
 use Rattle.rules.specs.Rules.{ruleFault}
 use Rattle.rules.specs.declared.Rule.{Rule}
-use Rattle.faults.specs.Faults.{editionFault, roomFault, sizeFault, weightFault, valueFault, jobFault, listsOff, wholeFault, itemFault}
+use Rattle.faults.specs.Faults.{editionFault, roomFault, sizeFault, weightFault, valueFault, jobFault, listsOff, wholeOf, wholeFault, bitsWholeFault}
+use Rattle.faults.specs.Faults.{itemFault}
 
-module _ (items : ℕ) (matrix : List Float) (m n weights seeds editions rules allowances limits output numbers indices : ℕ) where
-  pub many-refused : 64 < items → 3 ≡ wholeFault items matrix m n weights seeds editions rules allowances limits output numbers indices
-  unfolding wholeFault
-  many-refused h = rw (lt-ltb 64 items h)
+-- the test of the lists first and then of the scratch, each before what is found
+lists-first : (off : Bool) (room found : ℕ) → orElse (pick off 4 room) found ≡ pick off 4 (orElse room found)
+lists-first true room found = refl
+lists-first false room found = refl
 
-  module _ (few : items ≤ 64) where
-    pub large-refused : tooLarge m n ≡ true → 3 ≡ wholeFault items matrix m n weights seeds editions rules allowances limits output numbers indices
-    unfolding wholeFault
-    large-refused h = rw (le-ltb 64 items few, h)
+module _ (items m n entries matrix weights seeds editions rules allowances limits output numbers indices found : ℕ) where
+  pub large-refused : (ltb 64 items || tooLarge m n) ≡ true
+      → 3 ≡ wholeOf items m n entries matrix weights seeds editions rules allowances limits output numbers indices found
+  large-refused h = rw h
 
-    module _ (fine : tooLarge m n ≡ false) where
-      pub lists-refused : listsOff items m n (length matrix) weights seeds editions rules allowances limits output ≡ true
-          → 4 ≡ wholeFault items matrix m n weights seeds editions rules allowances limits output numbers indices
-      unfolding wholeFault
-      lists-refused h = rw (le-ltb 64 items few, fine, h)
+  module _ (fine : (ltb 64 items || tooLarge m n) ≡ false) {sizes : ℕ}
+      (e : sizes ≡ pick (listsOff items m entries matrix weights seeds editions rules allowances limits output) 4 (roomFault m n numbers indices)) where
+    found-last : wholeOf items m n entries matrix weights seeds editions rules allowances limits output numbers indices found ≡ orElse sizes found
+    found-last =
+        rw fine (sym (lists-first (listsOff items m entries matrix weights seeds editions rules allowances limits output) (roomFault m n numbers indices) found)
+        ∙ ap (λ (k : ℕ). orElse k found) (sym e))
 
-      module _ (whole : listsOff items m n (length matrix) weights seeds editions rules allowances limits output ≡ false) {room : ℕ}
-          (e : room ≡ roomFault m n numbers indices) where
-        pub room-refused : (room ≡ 0 → ⊥) → room ≡ wholeFault items matrix m n weights seeds editions rules allowances limits output numbers indices
-        unfolding wholeFault
-        room-refused h = rw (le-ltb 64 items few, fine, whole, ← e, ne-eqb room 0 h)
+    pub sizes-refused : (sizes ≡ 0 → ⊥) → sizes ≡ wholeOf items m n entries matrix weights seeds editions rules allowances limits output numbers indices found
+    sizes-refused h = sym (found-last ∙ rw (ne-eqb sizes 0 h))
 
-        pub entries-left : room ≡ 0 → {t : Bool} → bounded one matrix ≡ t
-            → pick t 0 7 ≡ wholeFault items matrix m n weights seeds editions rules allowances limits output numbers indices
-        unfolding wholeFault
-        entries-left h {t} b = rw (le-ltb 64 items few, fine, whole, ← e, eq-eqb room 0 h, b)
+    pub found-left : sizes ≡ 0 → {k : ℕ} → k ≡ found
+        → k ≡ wholeOf items m n entries matrix weights seeds editions rules allowances limits output numbers indices found
+    found-left h g = g ∙ sym (found-last ∙ rw (eq-eqb sizes 0 h))
+
+-- a call that is not too large has few items, and few columns and rows
+pub record Few (items m n : ℕ) : Type 0 where
+  pub few : items ≤ 64
+  pub fine : tooLarge m n ≡ false
+  pub columns : m ≤ 256
+  pub rows : n ≤ 4096
+
+pub few-of : (items m n : ℕ) → (ltb 64 items || tooLarge m n) ≡ false → Few items m n
+few-of items m n h =
+    let x = neither (ltb 64 items) (tooLarge m n) h in
+    let s = small m n (x .1) in
+    record { few = ltb-false 64 items (x .0); fine = x .1; columns = s .columns; rows = s .rows }
 
 -- of two numbers of which the first that is not 0 is given, neither is given
 pub no-fault : (a b : ℕ) → orElse a b ≡ 0 → (a ≡ 0) × (b ≡ 0)
 no-fault zero b h = (refl, h)
 no-fault (suc a) b h = absurd (let g : suc a ≡ 0 = rw (eqb·suc-zero a) at h in omega arith)
 
--- what a call that is not refused as a whole has
-pub record Whole (items : ℕ) (matrix : List Float) (m n weights seeds editions rules allowances limits output numbers indices : ℕ) : Type 0 where
+-- the sizes of a call that is not refused as a whole
+pub record Fits (items m n entries matrix weights seeds editions rules allowances limits output numbers indices : ℕ) : Type 0 where
   pub few : items ≤ 64
   pub fine : tooLarge m n ≡ false
-  pub columns : length matrix ≡ m * n
+  pub columns : matrix ≡ entries
   pub given : weights ≡ items * m
   pub seeded : seeds ≡ items
   pub edited : editions ≡ items
@@ -64,54 +77,72 @@ pub record Whole (items : ℕ) (matrix : List Float) (m n weights seeds editions
   pub limited : limits ≡ items
   pub left : output ≡ items * m
   pub room : roomFault m n numbers indices ≡ 0
-  pub entries : bounded one matrix ≡ true
 
-pub whole : (items : ℕ) (matrix : List Float) (m n weights seeds editions rules allowances limits output numbers indices : ℕ)
-    → wholeFault items matrix m n weights seeds editions rules allowances limits output numbers indices ≡ 0
-    → Whole items matrix m n weights seeds editions rules allowances limits output numbers indices
-unfolding wholeFault
-whole items matrix m n weights seeds editions rules allowances limits output numbers indices h =
-    let x = go (ltb 64 items || tooLarge m n) (listsOff items m n (length matrix) weights seeds editions rules allowances limits output)
-    (orElse (roomFault m n numbers indices) (pick (bounded one matrix) 0 7)) h in
+pub fits : (items m n entries matrix weights seeds editions rules allowances limits output numbers indices found : ℕ)
+    → wholeOf items m n entries matrix weights seeds editions rules allowances limits output numbers indices found ≡ 0
+    → Fits items m n entries matrix weights seeds editions rules allowances limits output numbers indices × (found ≡ 0)
+fits items m n entries matrix weights seeds editions rules allowances limits output numbers indices found h =
+    let x = go (ltb 64 items || tooLarge m n) (listsOff items m entries matrix weights seeds editions rules allowances limits output)
+    (orElse (roomFault m n numbers indices) found) h in
     let few = neither (ltb 64 items) (tooLarge m n) (x .0) in
-    let rest = no-fault (roomFault m n numbers indices) (pick (bounded one matrix) 0 7) (x .2) in
+    let rest = no-fault (roomFault m n numbers indices) found (x .2) in
     let a7 = neither _ (not (eqb output (items * m))) (x .1) in
     let a6 = neither _ (not (eqb limits items)) (a7 .0) in
     let a5 = neither _ (not (eqb allowances items)) (a6 .0) in
     let a4 = neither _ (not (eqb rules items)) (a5 .0) in
     let a3 = neither _ (not (eqb editions items)) (a4 .0) in
     let a2 = neither _ (not (eqb seeds items)) (a3 .0) in
-    let a1 = neither (not (eqb (length matrix) (m * n))) (not (eqb weights (items * m))) (a2 .0) in
-    record {
-      few = ltb-false 64 items (few .0);
-      fine = few .1;
-      columns = same (length matrix) (m * n) (a1 .0);
-      given = same weights (items * m) (a1 .1);
-      seeded = same seeds items (a2 .1);
-      edited = same editions items (a3 .1);
-      ruled = same rules items (a4 .1);
-      allowed = same allowances items (a5 .1);
-      limited = same limits items (a6 .1);
-      left = same output (items * m) (a7 .1);
-      room = rest .0;
-      entries = passes (bounded one matrix) (rest .1);
-    }
+    let a1 = neither (not (eqb matrix entries)) (not (eqb weights (items * m))) (a2 .0) in (
+      record {
+        few = ltb-false 64 items (few .0);
+        fine = few .1;
+        columns = same matrix entries (a1 .0);
+        given = same weights (items * m) (a1 .1);
+        seeded = same seeds items (a2 .1);
+        edited = same editions items (a3 .1);
+        ruled = same rules items (a4 .1);
+        allowed = same allowances items (a5 .1);
+        limited = same limits items (a6 .1);
+        left = same output (items * m) (a7 .1);
+        room = rest .0;
+      },
+      rest .1,
+    )
   where
     same : (a b : ℕ) → not (eqb a b) ≡ false → a ≡ b
     same a b e = eqb-true a b (not-false (eqb a b) e)
-
-    passes : (t : Bool) → _≡_ {A = ℕ} (pick t 0 7) 0 → t ≡ true
-    passes true e = refl
-    passes false e = absurd (omega arith)
 
     go : (a b : Bool) (k : ℕ) → pick a 3 (pick b 4 k) ≡ 0 → (a ≡ false) × (b ≡ false) × (k ≡ 0)
     go true b k e = absurd (omega arith)
     go false true k e = absurd (omega arith)
     go false false k e = (refl, refl, e)
 
+-- nothing was found
+none-found : (t : Bool) (k : ℕ) → pick t 0 (suc k) ≡ 0 → t ≡ true
+none-found true k e = refl
+none-found false k e = absurd (omega arith)
+
+-- what such a call has: on doubles
+pub whole : (items : ℕ) (matrix : List Float) (m n weights seeds editions rules allowances limits output numbers indices : ℕ)
+    → wholeFault items matrix m n weights seeds editions rules allowances limits output numbers indices ≡ 0
+    → Fits items m n (m * n) (length matrix) weights seeds editions rules allowances limits output numbers indices × (bounded one matrix ≡ true)
+unfolding wholeFault
+whole items matrix m n weights seeds editions rules allowances limits output numbers indices h =
+    let x = fits items m n (m * n) (length matrix) weights seeds editions rules allowances limits output numbers indices (pick (bounded one matrix) 0 7) h in
+    (x .0, none-found (bounded one matrix) 6 (x .1))
+
+-- and on bits
+pub whole-bits : (items : ℕ) (bits : List ℕ) (m n weights seeds editions rules allowances limits output numbers indices : ℕ)
+    → bitsWholeFault items bits m n weights seeds editions rules allowances limits output numbers indices ≡ 0
+    → Fits items m n (m * bytesOf n) (length bits) weights seeds editions rules allowances limits output numbers indices × (spareClear bits m n ≡ true)
+unfolding bitsWholeFault
+whole-bits items bits m n weights seeds editions rules allowances limits output numbers indices h =
+    let x = fits items m n (m * bytesOf n) (length bits) weights seeds editions rules allowances limits output numbers indices (spareFault bits m n) h in
+    (x .0, none-found (spareClear bits m n) 14 (x .1))
+
 -- in such a call each item has the sizes of a single call
-pub item-sized : {items : ℕ} {matrix : List Float} {m n weights seeds editions rules allowances limits output numbers indices : ℕ}
-    → Whole items matrix m n weights seeds editions rules allowances limits output numbers indices → sizeFault m n (length matrix) m m numbers indices ≡ 0
+pub item-sized : {items m n matrix weights seeds editions rules allowances limits output numbers indices : ℕ}
+    → Fits items m n (m * n) matrix weights seeds editions rules allowances limits output numbers indices → sizeFault m n matrix m m numbers indices ≡ 0
 unfolding sizeFault
 item-sized {m = m} c = rw (c .fine, eq-eqb _ _ (c .columns), eq-eqb m m refl) (c .room)
 

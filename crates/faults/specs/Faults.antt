@@ -9,6 +9,7 @@ use lib.Ieee.{Float}
 use Rattle.seq.specs.Choice.{pick, orElse}
 use Rattle.seq.specs.Sums.{plusZero}
 use Rattle.limits.specs.Limits.{tooLarge, scratchShort, bounded, allFinite}
+use Rattle.limits.specs.Votes.{bytesOf, spareFault}
 use Rattle.ieee.specs.Constants.{one}
 use Rattle.weights.specs.Weights.{l1Of, sound}
 use Rattle.rules.specs.Rules.{ruleFault}
@@ -54,19 +55,32 @@ jobFault rule edition matrix m n w output numbers indices =
     orElse (ruleFault rule) (orElse (editionFault edition)
     (orElse (sizeFault m n (length matrix) (length w) output numbers indices) (valueFault matrix w)))
 
--- A list of a call for several items has another length than items, m and n say: the matrix is one, weights and output have m places for
--- each item, and each other list has one.
+-- A list of a call for several items has another length than it is to have: the matrix so many entries, weights and output m places for
+-- each item, and each other list one.
 abbrev pub listsOff : ℕ → ℕ → ℕ → ℕ → ℕ → ℕ → ℕ → ℕ → ℕ → ℕ → ℕ → Bool
-listsOff items m n matrix weights seeds editions rules allowances limits output =
-    not (eqb matrix (m * n)) || not (eqb weights (items * m)) || not (eqb seeds items) || not (eqb editions items)
+listsOff items m entries matrix weights seeds editions rules allowances limits output =
+    not (eqb matrix entries) || not (eqb weights (items * m)) || not (eqb seeds items) || not (eqb editions items)
     || not (eqb rules items) || not (eqb allowances items) || not (eqb limits items) || not (eqb output (items * m))
 
--- of such a call as a whole: 3 too large or more than 64 items, 4 a list of another length, then 5, 6 and 7
+-- of such a call as a whole: 3 too large or more than 64 items, 4 a list of another length, then 5 and 6, and last what is found in the
+-- matrix
+abbrev pub wholeOf : ℕ → ℕ → ℕ → ℕ → ℕ → ℕ → ℕ → ℕ → ℕ → ℕ → ℕ → ℕ → ℕ → ℕ → ℕ → ℕ
+wholeOf items m n entries matrix weights seeds editions rules allowances limits output numbers indices found =
+    pick (ltb 64 items || tooLarge m n) 3
+    (pick (listsOff items m entries matrix weights seeds editions rules allowances limits output) 4
+    (orElse (roomFault m n numbers indices) found))
+
+-- on doubles: 7 is found where an entry lies outside [-1, 1]
 unfoldable pub wholeFault : ℕ → List Float → ℕ → ℕ → ℕ → ℕ → ℕ → ℕ → ℕ → ℕ → ℕ → ℕ → ℕ → ℕ
 wholeFault items matrix m n weights seeds editions rules allowances limits output numbers indices =
-    pick (ltb 64 items || tooLarge m n) 3
-    (pick (listsOff items m n (length matrix) weights seeds editions rules allowances limits output) 4
-    (orElse (roomFault m n numbers indices) (pick (bounded one matrix) 0 7)))
+    wholeOf items m n (m * n) (length matrix) weights seeds editions rules allowances limits output numbers indices
+    (pick (bounded one matrix) 0 7)
+
+-- on bits: 4 measures bytes, and 15 is found where a spare bit is set
+unfoldable pub bitsWholeFault : ℕ → List ℕ → ℕ → ℕ → ℕ → ℕ → ℕ → ℕ → ℕ → ℕ → ℕ → ℕ → ℕ → ℕ
+bitsWholeFault items bits m n weights seeds editions rules allowances limits output numbers indices =
+    wholeOf items m n (m * bytesOf n) (length bits) weights seeds editions rules allowances limits output numbers indices
+    (spareFault bits m n)
 
 -- of an item of a call that is not refused as a whole
 abbrev pub itemFault : Rule → ℕ → List Float → ℕ

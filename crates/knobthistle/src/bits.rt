@@ -2,6 +2,8 @@
 use ballots::sparsify_bits;
 use ballots::sparsify_within_bits;
 use ballots::thin_bits;
+use batch::Answers;
+use batch::thin_all_bits;
 use discrepancy::Colored;
 use faults::named_rule;
 use polls::discrepancy_coloring_bits;
@@ -14,6 +16,8 @@ ghost use Rattle.draw.specs.SplitMix.{seeded};
 ghost use Rattle.faults.specs.Faults.{ruleNamed};
 ghost use Rattle.rules.specs.declared.Rule.the-variants.{Target, Within};
 ghost use Rattle.ballots.specs.Ballots.{BitsThinned};
+ghost use Rattle.batch.specs.Items.{listed};
+ghost use Rattle.batch.specs.All.{BitsThinnedAll};
 ghost use Rattle.polls.specs.Polls.{BitsColored, bitsChange, bitsTurned};
 ghost use Rattle.knobthistle.specs.Caps.{capOf};
 
@@ -169,6 +173,44 @@ pub extern "C" fn knob_thin_bits(
             edition,
             rule: named_rule(rule, allowance, limit),
         },
+        output,
+        numbers,
+        indices,
+    )
+}
+
+// Thins each item as its job says, all on one matrix of votes.
+#[no_mangle]
+pub extern "C" fn knob_thin_all_bits(
+    bits: &[u8],
+    m: usize,
+    n: usize,
+    items: usize,
+    weights: &[f64],
+    seeds: &[u64],
+    editions: &[u32],
+    rules: &[u32],
+    allowances: &[f64],
+    limits: &[u64],
+    output: &mut [f64],
+    numbers: &mut [f64],
+    indices: &mut [u32],
+) -> Answers
+    ensures { λ r. ⌜ BitsThinnedAll (now (bits .entry)) m n items (listed (now (weights .entry)) (now (seeds .entry))
+        (now (editions .entry)) (now (rules .entry)) (now (allowances .entry)) (now (limits .entry))) (now (output .entry))
+        (now (numbers .entry)) (now (indices .entry)) r (now (output .exit)) (now (numbers .exit)) (now (indices .exit)) ⌝ }
+{
+    thin_all_bits(
+        bits,
+        m,
+        n,
+        items,
+        weights,
+        seeds,
+        editions,
+        rules,
+        allowances,
+        limits,
         output,
         numbers,
         indices,

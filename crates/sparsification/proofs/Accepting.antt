@@ -4,7 +4,6 @@ use mathlib.Core.Path.{_≡_, refl, sym, ap, _∙_}
 use mathlib.Core.Bool.{Bool, true, false, not, _||_}
 use mathlib.Core.List.{List}
 use native.Mathlib.Omega.{arith}
-use native.Mathlib.Decide.{decLt}
 use lib.Dec.{T, eqb, ltb, eqb·suc-zero}
 use lib.ListN.{length}
 use lib.Ieee.{Float}
@@ -19,11 +18,11 @@ use Rattle.weights.specs.Weights.{normalized, l1Of, sound}
 use Rattle.limits.specs.Matrix.{columnsOf}
 use Rattle.sparsification.specs.Answers.{refusal, answerAt, answerOf, stopFor, returned, Thinned}
 use Rattle.rules.specs.Rules.{ruleFault}
-use Rattle.faults.specs.Faults.{editionFault, sizeFault, valueFault, jobFault}
+use Rattle.faults.specs.Faults.{editionFault, sizeFault, weightFault, valueFault, jobFault}
 use Rattle.sparsification.specs.declared.Answer.{Answer}
 use Rattle.rules.specs.declared.Rule.{Rule}
 use Rattle.seq.proofs.Every.{every-at}
-use Rattle.seq.proofs.Choosing.{neither, both, never, shown}
+use Rattle.seq.proofs.Choosing.{neither, never, shown}
 use Rattle.draw.specs.declared.SplitMix64.{SplitMix64}
 use Rattle.faults.proofs.Whole.{no-fault}
 
@@ -146,3 +145,12 @@ values-fine rule edition matrix m n w output numbers indices h =
     let sizes : ℕ = sizeFault m n (length matrix) (length w) output numbers indices in
     let a = no-fault (ruleFault rule) (orElse (editionFault edition) (orElse sizes (valueFault matrix w))) h in
     no-fault sizes (valueFault matrix w) (no-fault (editionFault edition) (orElse sizes (valueFault matrix w)) (a .1) .1) .1
+
+-- and are without one on any other matrix whose entries lie in [-1, 1]
+pub values-on : (matrix other w : List Float) → bounded one other ≡ true → valueFault matrix w ≡ 0 → valueFault other w ≡ 0
+unfolding valueFault
+values-on matrix other w small h = rw small (go (bounded one matrix) h)
+  where
+    go : (t : Bool) → pick t (weightFault w) 7 ≡ 0 → weightFault w ≡ 0
+    go true e = e
+    go false e = absurd (omega arith)

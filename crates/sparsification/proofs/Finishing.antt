@@ -1,7 +1,7 @@
 -- What a job leaves: refused, or with the stage at which it stops.
-use Prim.Native.Nat.{ℕ, zero, suc, _+_, _*_, _≤_, _<_}
-use mathlib.Core.Path.{_≡_, refl, sym, ap, _∙_}
-use mathlib.Core.Bool.{Bool, true, false}
+use Prim.Native.Nat.{ℕ, _+_, _*_, _≤_}
+use mathlib.Core.Path.{_≡_, sym, ap, _∙_}
+use mathlib.Core.Bool.{true, false}
 use mathlib.Core.List.{List, []}
 use native.Mathlib.Omega.{arith}
 use native.Mathlib.Nat.{mul-le-mul-right}
@@ -16,7 +16,7 @@ use Rattle.ieee.proofs.Division.{unit, unit-is}
 use Rattle.ieee.proofs.Normalised.{Normal, normal-le}
 use Rattle.limits.specs.Matrix.{columnsOf}
 use Rattle.limits.specs.Limits.{bounded}
-use Rattle.seq.specs.Keep.{allTo}
+use Rattle.limits.specs.Reading.{Whole}
 use Rattle.ieee.specs.Constants.{one}
 use Rattle.weights.specs.Weights.{normalized}
 use Rattle.halve.specs.Handed.{Ready}
@@ -89,13 +89,17 @@ pub start-bounded : (w : List Float) (k : ℕ) → Normal binary64 k (at w) → 
 start-bounded w k normal e = every-holds (λ j. le (absOf (at w j)) one) (length w)
     (λ j l. ap (le (absOf (at w j))) unit-is ∙ holds (le (absOf (at w j)) unit) (normal-le normal j (rw e at l)))
 
--- the sizes of an accepted job are those that a pass asks for
-pub ready-of : (matrix : List Float) (m n : ℕ) (w output numbers : List Float) (indices : List ℕ)
-    → Sized m n (length matrix) (length w) (length output) (length numbers) (length indices) → bounded one matrix ≡ true → Ready matrix [] n w numbers indices
-ready-of matrix m n w output numbers indices s small =
+-- doubles with no bits beside them are a whole matrix
+pub doubles-whole : (matrix : List Float) (m n : ℕ) → length matrix ≡ m * n → Whole matrix [] m n
+doubles-whole matrix m n long = record { doubles = λ _. long; votes = λ h. absurd (omega arith) }
+
+-- the sizes of an accepted job are those that a pass asks for, on a matrix that is lent whole
+pub ready-of : (matrix : List Float) (bits : List ℕ) (m n : ℕ) (w output numbers : List Float) (indices : List ℕ) → Whole matrix bits m n → {entries : ℕ}
+    → Sized m n entries (length w) (length output) (length numbers) (length indices) → bounded one matrix ≡ true → Ready matrix bits n w numbers indices
+ready-of matrix bits m n w output numbers indices whole s small =
     let e : length w ≡ m = s .given in
     record {
-      whole = record { doubles = λ _. rw e (s .whole); votes = λ h. absurd (omega arith) };
+      whole = rw e whole;
       few = rw e (s .few);
       short = s .short;
       floats = rw e (omega (arith, s .floats, room m n (s .columns)));

@@ -2,3 +2,4 @@
 pub mod Accepting
 pub mod Sole
 pub mod Finishing
+pub mod SameJob

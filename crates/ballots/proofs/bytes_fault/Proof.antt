@@ -1,5 +1,6 @@
 -- `ballots::bytes_fault` meets its contract: each way out is one of the laws of Refusing, and the sizes that are left are small enough for the products.
-use Rattle.ballots.proofs.Refusing.{few-bytes, large-refused, bytes-refused, weights-refused, output-refused, room-left}
+use Rattle.faults.proofs.Refusing.{few-bytes}
+use Rattle.ballots.proofs.Refusing.{large-refused, bytes-refused, weights-refused, output-refused, room-left}
 use Rattle.limits.proofs.Sizes.{small}
 use borrow.Author.Needs.{needs}
 use mathlib.Core.Path.{sym, _∙_}

@@ -1,44 +1,20 @@
--- `batch::thin_all` meets its contract: a fault of the whole call is refused, and else the scratch is wiped and every item thinned.
+-- `batch::thin_all` meets its contract: the number of the call as a whole is tested, and the doubles are lent with no bits beside them.
 use borrow.Author.Needs.{needs}
-use mathlib.Core.Path.{sym, _∙_}
-use Rattle.batch.specs.Items.{listed}
-use Rattle.batch.proofs.Closing.{all-refused, wiped, all-done}
+use Rattle.batch.proofs.AsDoubles.{tested-doubles}
 use Rattle.batch.proofs.thin_all.Statement.{statement}
 use Rattle.batch.proofs.thin_all.Tie as tie
 
 whole-fault-requires : tie.Need-whole-fault-requires
 whole-fault-requires c κs = search needs
 
-no-answers-requires : tie.Need-no-answers-requires
-no-answers-requires c κs = search needs
+slice-aggregate-thin-tested : tie.Need-slice-aggregate-thin-tested
+slice-aggregate-thin-tested c = search needs
 
-returns : tie.Need-returns
-returns c =
-    let at-test = c .before in
-    let at-fault = at-test .before in
+thin-tested-requires : tie.Need-thin-tested-requires
+thin-tested-requires c κs =
+    let at-fault = c .before .before .before .before in
     let a = at-fault .before .before .before .before .before .before .before .before .before .before .before .args in
-    all-refused (a .matrix .now) (a .m) (a .n) (a .items)
-    (listed (a .weights .now) (a .seeds .now) (a .editions .now) (a .rules .now) (a .allowances .now) (a .limits .now))
-    (a .output .now) (a .numbers .now) (a .indices .now)
-    (at-fault .whole-fault .ensures) (at-test .if1 .taken) (c .no-answers .ensures .0) (c .no-answers .ensures .1)
-
-clear-requires : tie.Need-clear-requires
-clear-requires c κs = search needs
-
-clear-words-requires : tie.Need-clear-words-requires
-clear-words-requires c κs = search needs
-
-thin-items-requires : tie.Need-thin-items-requires
-thin-items-requires c κs =
-    let at-words = c .before .before .before .before .before in
-    let at-clear = at-words .before .before .before .before in
-    let at-test = at-clear .before .before in
-    let at-fault = at-test .before in
-    let a = at-fault .before .before .before .before .before .before .before .before .before .before .before .args in
-    wiped (a .matrix .now) (a .m) (a .n) (a .items)
-    (listed (a .weights .now) (a .seeds .now) (a .editions .now) (a .rules .now) (a .allowances .now) (a .limits .now))
-    (a .output .now) (a .numbers .now) (a .indices .now)
-    (at-clear .clear .ensures) (at-words .clear-words .ensures) (sym (at-fault .whole-fault .ensures) ∙ at-test .if1 .left)
+    tested-doubles (a .output .now) (a .numbers .now) (a .indices .now) (at-fault .whole-fault .ensures)
 
 same-length : tie.Need-same-length
 same-length c = search needs
@@ -49,31 +25,19 @@ same-length-2 c = search needs
 same-length-3 : tie.Need-same-length-3
 same-length-3 c = search needs
 
-returns-2 : tie.Need-returns-2
-returns-2 c =
-    let at-items = c .before .before .before .before .before .before in
-    let at-words = at-items .before .before .before .before .before .before in
-    let at-clear = at-words .before .before .before .before in
-    let at-test = at-clear .before .before in
-    let at-fault = at-test .before in
-    let a = at-fault .before .before .before .before .before .before .before .before .before .before .before .args in
-    all-done (a .matrix .now) (a .m) (a .n) (a .items)
-    (listed (a .weights .now) (a .seeds .now) (a .editions .now) (a .rules .now) (a .allowances .now) (a .limits .now))
-    (a .output .now) (a .numbers .now) (a .indices .now)
-    (at-clear .clear .ensures) (at-words .clear-words .ensures) (sym (at-fault .whole-fault .ensures) ∙ at-test .if1 .left)
-    (at-items .thin-items .ensures)
+returns : tie.Need-returns
+returns c =
+    let at-all = c .before .before .before .before .before .before in
+    rw (at-all .before .before .before .before .before .whole-fault .ensures) at (at-all .thin-tested .ensures)
 
 pub thin-all-spec : {M : Type 1} → statement M
 thin-all-spec =
     tie.close
     (tie.spec
     whole-fault-requires
-    no-answers-requires
-    returns
-    clear-requires
-    clear-words-requires
-    thin-items-requires
+    slice-aggregate-thin-tested
+    thin-tested-requires
     same-length
     same-length-2
     same-length-3
-    returns-2)
+    returns)

@@ -3,30 +3,34 @@ use borrow.Author.Needs.{needs}
 use Prim.Native.Nat.{_-_, _*_}
 use mathlib.Core.Path.{refl}
 use native.Mathlib.Omega.{arith}
-use Rattle.faults.proofs.Whole.{whole}
 use Rattle.batch.specs.Items.{listed}
-use Rattle.batch.proofs.Turns.{Called, Upto, weights-inside, output-inside, near, upto-none, floats-long, words-long, output-kept, parts-sized}
-use Rattle.batch.proofs.Turns.{span, upto-more, upto-all}
+use Rattle.batch.specs.Lent.{lentAs}
+use Rattle.batch.proofs.Turns.{Called, called-of, Upto, weights-inside, output-inside, near, upto-none, floats-long, words-long, output-kept}
+use Rattle.batch.proofs.Turns.{parts-sized, span, upto-more, upto-all}
 use Rattle.batch.proofs.thin_items.Statement.{statement}
 use Rattle.batch.proofs.thin_items.Tie as tie
 
 abbrev Inv-loop : tie.InvT-loop
-Inv-loop matrix m n items weights seeds editions rules allowances limits output₀ numbers₀ indices₀ answers₀ i₀ output numbers indices answers i =
-    Called matrix m n items (listed weights seeds editions rules allowances limits) output₀ numbers₀ indices₀
-    × Upto matrix m n items (listed weights seeds editions rules allowances limits) output₀ numbers₀ indices₀ i answers output numbers indices
+Inv-loop matrix bits m n items weights seeds editions rules allowances limits output₀ numbers₀ indices₀ answers₀ i₀ output numbers indices answers i =
+    Called (lentAs matrix bits m n) m n items (listed weights seeds editions rules allowances limits) output₀ numbers₀ indices₀
+    × Upto (lentAs matrix bits m n) m n items (listed weights seeds editions rules allowances limits) output₀ numbers₀ indices₀ i
+    answers output numbers indices
 
 abbrev μ-loop : tie.MeasureT-loop
-μ-loop matrix m n items weights seeds editions rules allowances limits output₀ numbers₀ indices₀ answers₀ i₀ output numbers indices answers i = items - i
+μ-loop matrix bits m n items weights seeds editions rules allowances limits output₀ numbers₀ indices₀ answers₀ i₀ output numbers indices answers i = items - i
 
 no-answers-requires : tie.Need-no-answers-requires Inv-loop μ-loop
 no-answers-requires c κs = search needs
 
 loop-holds : tie.Need-loop-holds Inv-loop μ-loop
 loop-holds c =
-    let at-start = c .before .before .before .before .before .before .before .before .before .before .before in
-    let a = at-start .args in (
-      record { sized = whole (a .items) (a .matrix .now) (a .m) (a .n) _ _ _ _ _ _ _ _ _ (at-start .pre .0) },
-      upto-none (c .no-answers .ensures .0) (c .no-answers .ensures .1) (at-start .pre .1 .floats) (at-start .pre .1 .words),
+    let at-start = c .before .before .before .before .before .before .before .before .before .before .before .before in
+    let a = at-start .args in
+    let p = at-start .pre in (
+      called-of (lentAs (a .matrix .now) (a .bits .now) (a .m) (a .n)) (a .m) (a .n) (a .items)
+          (listed (a .weights .now) (a .seeds .now) (a .editions .now) (a .rules .now) (a .allowances .now) (a .limits .now))
+          (a .output .now) (a .numbers .now) (a .indices .now) (p .1),
+      upto-none (c .no-answers .ensures .0) (c .no-answers .ensures .1) (p .2 .floats) (p .2 .words),
     )
 
 mul-a : tie.Need-mul-a Inv-loop μ-loop
@@ -122,8 +126,9 @@ thin-item-requires c κs =
     let at-test = c .before .before .before .before .before .before .before .before .before .before .before in
     let at-loop = at-test .before in
     let inv = at-loop .loop .inv in
-    let a = at-loop .before .before .before .before .before .before .before .before .before .before .before .before .args in
-    (parts-sized (inv .0) (inv .1) (at-test .loop-test .taken) _ (span (at-loop .loop .i * a .m) (a .m)), inv .0 .sized .entries)
+    let at-start = at-loop .before .before .before .before .before .before .before .before .before .before .before .before .before in
+    let m = at-start .args .m in
+    (at-start .pre .0, parts-sized (inv .0) (inv .1) (at-test .loop-test .taken) _ (span (at-loop .loop .i * m) m), inv .0 .entries)
 
 mul-answer : tie.Need-mul-answer Inv-loop μ-loop
 mul-answer c =
@@ -156,7 +161,7 @@ loop-again c =
     let at-test = at-source .before .before .before .before in
     let at-loop = at-test .before in
     let inv = at-loop .loop .inv in
-    let a = at-loop .before .before .before .before .before .before .before .before .before .before .before .before .args in (
+    let a = at-loop .before .before .before .before .before .before .before .before .before .before .before .before .before .args in (
       inv .0,
       upto-more (inv .0) (inv .1) (at-test .loop-test .taken) (span (at-loop .loop .i * a .m) (a .m)) (at-source .new .ensures)
           (at-rule .named-rule .ensures) (at-item .thin-item .ensures) refl refl,

@@ -1,12 +1,13 @@
 -- `sparsification::thin` meets its contract: a fault is refused, and a job without one has the sizes, values and rule that thinning asks for.
 use borrow.Author.Needs.{needs}
 use mathlib.Core.Path.{sym, _∙_}
+use mathlib.Core.List.{[]}
 use native.Mathlib.Omega.{arith}
 use lib.ListN.{length}
 use lib.Seq.{length-take-le}
 use Rattle.draw.specs.SplitMix.{seeded}
 use Rattle.sparsification.proofs.Accepting.{accepted, values-fine}
-use Rattle.sparsification.proofs.Finishing.{thinned-refused, thinned-from, ready-of}
+use Rattle.sparsification.proofs.Finishing.{thinned-refused, thinned-from, doubles-whole, ready-of}
 use Rattle.sparsification.proofs.thin.Statement.{statement}
 use Rattle.sparsification.proofs.thin.Tie as tie
 
@@ -61,7 +62,8 @@ thin-sound-requires c κs =
     let none = sym (at-fault .job-fault .ensures) ∙ at-test .if1 .left in
     let s = accepted (a .job .rule) (a .job .edition) (a .matrix .now) (a .m) (a .n) (a .weights .now) (length (a .output .now)) (length (a .numbers .now))
     (length (a .indices .now)) none in (
-      ready-of (a .matrix .now) (a .m) (a .n) (a .weights .now) (a .output .now) (a .numbers .now) (a .indices .now) (s .sized) (s .valued .entries),
+      ready-of (a .matrix .now) [] (a .m) (a .n) (a .weights .now) (a .output .now) (a .numbers .now) (a .indices .now)
+          (doubles-whole (a .matrix .now) (a .m) (a .n) (s .sized .whole)) (s .sized) (s .valued .entries),
       values-fine (a .job .rule) (a .job .edition) (a .matrix .now) (a .m) (a .n) (a .weights .now) _ _ _ none,
       length-take-le _ _ (omega (arith, s .sized .few)) ∙ sym (s .sized .given),
       s .sized .left ∙ sym (s .sized .given),
