@@ -1,4 +1,4 @@
-// Several jobs on one matrix, in one call: the matrix is tested once, and each item has what thin gives on its own.
+// Several jobs on one matrix, of doubles or of bits, in one call: the matrix is tested once, and each item has what thin gives on its own.
 use draw::SplitMix64;
 use faults::bits_whole_fault;
 use faults::item_fault;
