@@ -13,9 +13,9 @@ use Rattle.seq.specs.Lists.{repeated, part}
 use Rattle.seq.specs.Sums.{plusZero}
 use Rattle.limits.specs.Votes.{bytesOf, spareClear, expanded}
 use Rattle.sparsification.specs.Answers.{Thinned}
-use Rattle.sparsification.specs.Demand.{allows, Later}
-use Rattle.sparsification.proofs.Monotone.{Double}
-use Rattle.sparsification.proofs.DemandThree.{Doubles}
+use Rattle.demand.specs.Demand.{allows, Later}
+use Rattle.demand.proofs.Monotone.{Double}
+use Rattle.demand.proofs.DemandThree.{Doubles}
 use Rattle.batch.specs.Items.{Items, weightsAt, sourceAt, ruleAt}
 use Rattle.batch.specs.All.{ThinnedAll, BitsThinnedAll}
 use Rattle.batch.specs.declared.Answers.{Answers}
