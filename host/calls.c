@@ -617,6 +617,84 @@ static void thin_bits(void) {
     }
 }
 
+/* Three items, as thin_all has them on doubles; their answers are those of the single calls on the doubles, made first. */
+static void thin_all_bits(void) {
+    const uint8_t *bits = bits_room;
+    const double *matrix = matrix_room, *weights = weights_room;
+    double *output = output_room, *numbers = numbers_room;
+    uint32_t *indices = indices_room;
+    static const uint64_t seeds[] = {3, 5, 4}, limits[] = {7, 0, 5};
+    static const uint32_t editions[] = {2, 1, 1}, rules[] = {0, 0, 2};
+    static const double allowances[] = {0.75, 0.25, 0.03125};
+    const size_t m = 24, n = 19, items = 3, bits_length = 72, matrix_length = 456;
+    const size_t numbers_length = KNOB_NUMBERS(24, 19), indices_length = KNOB_INDICES(24, 19);
+    knob_answer first, third;
+    double expected[73];
+    fill_votes(m, n);
+    for (size_t j = 0; j < m; j++) {
+        weights_room[m + j] = 1.0;
+        weights_room[2 * m + j] = weights_room[m - 1 - j];
+    }
+    for (size_t k = 0; k < 73; k++) expected[k] = number(NOISE);
+    {
+        const size_t weights_length = 24, output_length = 24, target = 7;
+        const uint64_t seed = 3;
+        const uint32_t edition = 2;
+        lend();
+        first = CALL_knob_sparsify;
+        memcpy(expected, output_room, 24 * sizeof(double));
+    }
+    {
+        const size_t weights_length = 24, output_length = 24, cap = 5;
+        const uint64_t seed = 4;
+        const uint32_t edition = 1, capped = 1;
+        const double allowance = 0.03125;
+        const double *weights = weights_room + 48;
+        lend();
+        third = CALL_knob_sparsify_within;
+        memcpy(expected + 48, output_room, 24 * sizeof(double));
+    }
+    {
+        const size_t weights_length = 72, output_length = 72, seeds_length = 3, editions_length = 3, rules_length = 3;
+        const size_t allowances_length = 3, limits_length = 3;
+        lend();
+        const knob_answers all = CALL_knob_thin_all_bits;
+        hold("knob_thin_all_bits, its number",
+             all.number == KNOB_ACCEPTED && first.number == KNOB_ACCEPTED && third.number == KNOB_ACCEPTED && first.stage > 1 && third.stage > 1);
+        hold("knob_thin_all_bits, its first item", memcmp(&all.items[0], &first, sizeof first) == 0);
+        hold("knob_thin_all_bits, its second item", answers(all.items[1], KNOB_REFUSED_ZERO, 0, 0, 0, 0, 0));
+        hold("knob_thin_all_bits, its third item", memcmp(&all.items[2], &third, sizeof third) == 0);
+        hold("knob_thin_all_bits, past the items", answers(all.items[3], 0, 0, 0, 0, 0, 0) && answers(all.items[63], 0, 0, 0, 0, 0, 0));
+        hold("knob_thin_all_bits", memcmp(output_room, expected, sizeof expected) == 0 && wiped(numbers_length, indices_length));
+        bits_room[3 * 5 + 2] |= 0x08; /* column 5, row 19, of which there is none */
+        lend();
+        const knob_answers none = CALL_knob_thin_all_bits;
+        hold("knob_thin_all_bits, a spare bit",
+             none.number == KNOB_REFUSED_SPARE_BIT && answers(none.items[0], 0, 0, 0, 0, 0, 0) && untouched());
+    }
+    { /* No two of these are equal. */
+        const size_t m = 257, n = 5, items = 2, bits_length = 6, weights_length = 7, output_length = 8, numbers_length = 9;
+        const size_t indices_length = 10, seeds_length = 11, editions_length = 12, rules_length = 13, allowances_length = 14, limits_length = 15;
+        lend();
+        const knob_answers all = CALL_knob_thin_all_bits;
+        hold("knob_thin_all_bits, refused", all.number == KNOB_REFUSED_SIZE && answers(all.items[0], 0, 0, 0, 0, 0, 0) && untouched());
+    }
+    { /* Nor of these, where only the items are too many. */
+        const size_t m = 3, n = 5, items = 65, bits_length = 6, weights_length = 7, output_length = 8, numbers_length = 9;
+        const size_t indices_length = 10, seeds_length = 11, editions_length = 12, rules_length = 13, allowances_length = 14, limits_length = 15;
+        lend();
+        const knob_answers all = CALL_knob_thin_all_bits;
+        hold("knob_thin_all_bits, too many items", all.number == KNOB_REFUSED_SIZE && untouched());
+    }
+    { /* And of these, too many rows. */
+        const size_t m = 3, n = 4097, items = 2, bits_length = 6, weights_length = 7, output_length = 8, numbers_length = 9;
+        const size_t indices_length = 10, seeds_length = 11, editions_length = 12, rules_length = 13, allowances_length = 14, limits_length = 15;
+        lend();
+        const knob_answers all = CALL_knob_thin_all_bits;
+        hold("knob_thin_all_bits, too many rows", all.number == KNOB_REFUSED_SIZE && untouched());
+    }
+}
+
 static void discrepancy_coloring_bits(void) {
     const uint8_t *bits = bits_room;
     const double *matrix = matrix_room;
@@ -841,6 +919,7 @@ int main(void) {
     sparsify_bits();
     sparsify_within_bits();
     thin_bits();
+    thin_all_bits();
     discrepancy_coloring_bits();
     margins_bits();
     moved();

@@ -236,11 +236,12 @@ uint64_t knob_turned_words(const double *matrix, size_t matrix_length, size_t m,
    bit of the first: entry (row i, column j) is -1 where (bits[j*KNOB_BYTES(n) + i/8] >> (i%8)) & 1 is 1, and else 1. The bits of a column's
    last byte that stand for no row are spare, and must be 0. The bits are read where they stand: no copy of them in doubles is made.
 
-   Of the six calls below five are those above with _bits behind their names. Each answers, writes and leaves exactly what that one does for
+   Of the seven calls below six are those above with _bits behind their names. Each answers, writes and leaves exactly what that one does for
    the matrix of doubles that the bits stand for, and wants as much scratch. Only the refusals differ: 4 measures bytes, of which there must
    be m*KNOB_BYTES(n), and 15, a spare bit set, is given where the other call gives 7 or 11, and else directly after 4. The order is
 
      thinning           1, 12, 2, 13, 3, 4, 5, 6, 15, 8, 9
+     several items      3, 4, 5, 6, 15 of the call as a whole; then of each item 1, 12, 2, 13, 8, 9
      colouring          3, 4, 6, 15
      change             3, 4, 15
      turned words       3, 4, 15, 8 */
@@ -271,6 +272,18 @@ knob_answer knob_thin_bits(const uint8_t *bits, size_t bits_length, size_t m, si
                            uint32_t rule, double allowance, size_t limit,
                            double *output, size_t output_length,
                            double *numbers, size_t numbers_length, uint32_t *indices, size_t indices_length);
+#endif
+
+/* knob_thin_all on bits: several weight vectors over one matrix of votes. The bits are tested once. A refusal of the call as a whole, also 3
+   for more than KNOB_MAX_ITEMS items, writes nothing, and every item's answer is 0; an item that is refused by itself has its part of output
+   as it was, and the other items go on. */
+#if !defined(__aarch64__) /* there, see the end */
+knob_answers knob_thin_all_bits(const uint8_t *bits, size_t bits_length, size_t m, size_t n, size_t items,
+                                const double *weights, size_t weights_length, const uint64_t *seeds, size_t seeds_length,
+                                const uint32_t *editions, size_t editions_length, const uint32_t *rules, size_t rules_length,
+                                const double *allowances, size_t allowances_length, const uint64_t *limits, size_t limits_length,
+                                double *output, size_t output_length,
+                                double *numbers, size_t numbers_length, uint32_t *indices, size_t indices_length);
 #endif
 
 /* knob_discrepancy_coloring on bits. No columns or no rows are fine. */
@@ -350,7 +363,7 @@ size_t knob_moved_sheet(const uint8_t *text, size_t text_length, uint8_t *answer
 
 #if defined(__aarch64__)
 /* On Arm the archive's calls write a record through an address, their first parameter, which is not how C returns one there. So the
-   nine are declared as they are, and each name then stands for a function of the form above. */
+   ten are declared as they are, and each name then stands for a function of the form above. */
 knob_colored *knob_discrepancy_coloring(knob_colored *answer, const double *matrix, size_t matrix_length, size_t m, size_t n, uint64_t seed,
                                         int8_t *output, size_t output_length,
                                         double *numbers, size_t numbers_length, uint32_t *indices, size_t indices_length);
@@ -394,6 +407,13 @@ knob_answer *knob_thin_bits(knob_answer *answer, const uint8_t *bits, size_t bit
                             uint32_t rule, double allowance, size_t limit,
                             double *output, size_t output_length,
                             double *numbers, size_t numbers_length, uint32_t *indices, size_t indices_length);
+
+knob_answers *knob_thin_all_bits(knob_answers *answer, const uint8_t *bits, size_t bits_length, size_t m, size_t n, size_t items,
+                                 const double *weights, size_t weights_length, const uint64_t *seeds, size_t seeds_length,
+                                 const uint32_t *editions, size_t editions_length, const uint32_t *rules, size_t rules_length,
+                                 const double *allowances, size_t allowances_length, const uint64_t *limits, size_t limits_length,
+                                 double *output, size_t output_length,
+                                 double *numbers, size_t numbers_length, uint32_t *indices, size_t indices_length);
 
 knob_colored *knob_discrepancy_coloring_bits(knob_colored *answer, const uint8_t *bits, size_t bits_length, size_t m, size_t n, uint64_t seed,
                                              int8_t *output, size_t output_length,
@@ -483,6 +503,21 @@ static inline knob_answer knob_thin_bits_returned(const uint8_t *bits, size_t bi
                            output, output_length, numbers, numbers_length, indices, indices_length);
 }
 
+static inline knob_answers knob_thin_all_bits_returned(const uint8_t *bits, size_t bits_length, size_t m, size_t n, size_t items,
+                                                       const double *weights, size_t weights_length,
+                                                       const uint64_t *seeds, size_t seeds_length,
+                                                       const uint32_t *editions, size_t editions_length,
+                                                       const uint32_t *rules, size_t rules_length,
+                                                       const double *allowances, size_t allowances_length,
+                                                       const uint64_t *limits, size_t limits_length,
+                                                       double *output, size_t output_length,
+                                                       double *numbers, size_t numbers_length, uint32_t *indices, size_t indices_length) {
+    knob_answers answer;
+    return *knob_thin_all_bits(&answer, bits, bits_length, m, n, items, weights, weights_length, seeds, seeds_length,
+                               editions, editions_length, rules, rules_length, allowances, allowances_length, limits, limits_length,
+                               output, output_length, numbers, numbers_length, indices, indices_length);
+}
+
 static inline knob_colored knob_discrepancy_coloring_bits_returned(const uint8_t *bits, size_t bits_length, size_t m, size_t n, uint64_t seed,
                                                                    int8_t *output, size_t output_length,
                                                                    double *numbers, size_t numbers_length,
@@ -500,6 +535,7 @@ static inline knob_colored knob_discrepancy_coloring_bits_returned(const uint8_t
 #define knob_sparsify_bits knob_sparsify_bits_returned
 #define knob_sparsify_within_bits knob_sparsify_within_bits_returned
 #define knob_thin_bits knob_thin_bits_returned
+#define knob_thin_all_bits knob_thin_all_bits_returned
 #define knob_discrepancy_coloring_bits knob_discrepancy_coloring_bits_returned
 #endif
 
