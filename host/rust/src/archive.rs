@@ -245,6 +245,33 @@ extern "C" {
         indices_length: usize,
     ) -> *mut Answer;
 
+    pub fn knob_thin_all_bits(
+        answer: *mut Answers,
+        bits: *const u8,
+        bits_length: usize,
+        m: usize,
+        n: usize,
+        items: usize,
+        weights: *const f64,
+        weights_length: usize,
+        seeds: *const u64,
+        seeds_length: usize,
+        editions: *const u32,
+        editions_length: usize,
+        rules: *const u32,
+        rules_length: usize,
+        allowances: *const f64,
+        allowances_length: usize,
+        limits: *const u64,
+        limits_length: usize,
+        output: *mut f64,
+        output_length: usize,
+        numbers: *mut f64,
+        numbers_length: usize,
+        indices: *mut u32,
+        indices_length: usize,
+    ) -> *mut Answers;
+
     pub fn knob_discrepancy_coloring_bits(
         answer: *mut Colored,
         bits: *const u8,

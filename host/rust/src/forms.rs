@@ -17,6 +17,22 @@ pub enum Form<'a> {
     Bits(&'a Votes),
 }
 
+impl Form<'_> {
+    pub fn columns(&self) -> usize {
+        match self {
+            Form::Doubles(matrix) => matrix.m,
+            Form::Bits(votes) => votes.columns(),
+        }
+    }
+
+    pub fn rows(&self) -> usize {
+        match self {
+            Form::Doubles(matrix) => matrix.n,
+            Form::Bits(votes) => votes.rows(),
+        }
+    }
+}
+
 /// What can be lent to the archive.
 pub trait Lend {
     fn lend(&self) -> Form<'_>;

@@ -45,7 +45,7 @@
 //! draws, the values of the module `sparsification` of miniboosts; where that panics they give a [`Refusal`]. Their values stay plain
 //! weights, not records, so that code written for that module goes on working behind a `?`. [`thin`] gives the whole answer: weights,
 //! stage, nonzeros, change, how much was drawn and swept, and the path, and [`thin_all`] does so for up to [`MAX_ITEMS`] weight vectors over
-//! the same columns; [`thin_votes`] takes labels and confidences, and gives the columns that are kept. [`thin`], [`color`],
+//! the same columns; [`thin_votes`] takes labels and confidences, and gives the columns that are kept. [`thin`], [`thin_all`], [`color`],
 //! [`max_margin_change`] and [`turned_words`] take columns of doubles or [`Votes`]. Where the panics are wanted too, the module
 //! [`sparsification`] has the very signatures, and a host changes its `use` line alone.
 //!

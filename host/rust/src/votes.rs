@@ -4,7 +4,7 @@ use crate::lent::{MAX_COLUMNS, MAX_ROWS};
 use std::error::Error;
 use std::fmt;
 
-/// A matrix of yes-or-no votes, one bit a margin: [`thin`](crate::thin), [`color`](crate::color),
+/// A matrix of yes-or-no votes, one bit a margin: [`thin`](crate::thin), [`thin_all`](crate::thin_all), [`color`](crate::color),
 /// [`max_margin_change`](crate::max_margin_change) and [`turned_words`](crate::turned_words) take it in the place of columns of doubles, read
 /// the bits where they stand, and give the very answers that they give for the columns of 1 and -1.
 ///

@@ -1,15 +1,15 @@
 //! Votes as bits: answers equal those of the double form, every refusal in its order, also those that only the archive's own calls can
 //! reach, and spare bits.
 
-use knobthistle::{color, max_margin_change, thin, turned_words};
-use knobthistle::{Coloring, Edition, Job, NotAVote, Refusal, Rule, Thinned, Votes, MAX_COLUMNS, MAX_ROWS};
+use knobthistle::{color, max_margin_change, thin, thin_all, turned_words};
+use knobthistle::{Coloring, Edition, Item, Job, NotAVote, Refusal, Rule, Thinned, Votes, MAX_COLUMNS, MAX_ITEMS, MAX_ROWS};
 
 /// The archive's own calls, as the crate declares them.
 #[allow(dead_code)]
 #[path = "../src/archive.rs"]
 mod archive;
 
-use archive::{Answer, Colored};
+use archive::{Answer, Answers, Colored};
 
 /// A small generator for the tests' own choices.
 struct Chance(u64);
@@ -139,12 +139,78 @@ fn signs_of_every_kind() {
     assert_eq!(why.to_string(), "the entry of column 3 and row 4 is neither 1 nor -1");
 }
 
+/// Several items on votes have what each has by itself, and what they have on the doubles, by any number of threads.
+#[test]
+fn several_items() {
+    let mut chance = Chance(12);
+    for round in 0..80 {
+        let (m, n) = (1 + chance.below(20), 1 + chance.below(20));
+        let bools = chance.bools(m, n);
+        let (votes, columns) = (Votes::from_bools(&bools), doubles(&bools));
+        let many = if round == 0 { MAX_ITEMS } else { chance.below(12) };
+        let weights: Vec<Vec<f64>> = (0..many)
+            .map(|_| match chance.below(6) {
+                0 => vec![0.0; m],
+                1 => vec![f64::INFINITY; m],
+                _ => chance.vector(m),
+            })
+            .collect();
+        let job = |chance: &mut Chance| match chance.below(6) {
+            0 => Job { rule: Rule::Target(0), ..chance.job(m) },
+            1 => Job { rule: Rule::Within { allowance: chance.signed() / 4.0, cap: None }, ..chance.job(m) },
+            _ => chance.job(m),
+        };
+        let items: Vec<Item> = weights.iter().map(|weights| Item { weights, job: job(&mut chance) }).collect();
+        let every = |found: &[Result<Thinned, Refusal>]| -> Vec<Result<Vec<u64>, Refusal>> {
+            found.iter().map(|one| one.as_ref().map(every_bit).map_err(|refusal| *refusal)).collect()
+        };
+        let singles: Vec<_> = items.iter().map(|item| thin(&votes, item.weights, item.job)).collect();
+        assert_eq!(every(&thin_all(&columns, &items, 1).unwrap()), every(&singles), "{m} columns, {n} rows");
+        for threads in [0, 1, 2, 3, 7, 100] {
+            assert_eq!(every(&thin_all(&votes, &items, threads).unwrap()), every(&singles), "{m} columns, {n} rows, {threads} threads");
+        }
+    }
+}
+
+/// What the call for several items refuses as a whole, also spread over threads.
+#[test]
+fn several_items_refused() {
+    let job = Job { seed: 1, edition: Edition::First, rule: Rule::Target(1) };
+    let (item, zero) = (Item { weights: &[1.0, 2.0], job }, Item { weights: &[f64::NAN, 0.0], job: Job { rule: Rule::Target(0), ..job } });
+    let (longer, shorter) = (Item { weights: &[1.0, 2.0, 3.0], job }, Item { weights: &[1.0], job });
+    let of = |bits: &[u8], m: usize, n: usize, items: &[Item], expected: Option<Refusal>| {
+        for threads in [1, 2, 8] {
+            assert_eq!(thin_all(&Votes::from_bits(bits.to_vec(), m, n), items, threads).err(), expected, "{m} columns, {n} rows");
+        }
+    };
+    of(&[0b01, 0b10], 2, 2, &[], None);
+    of(&[0b01, 0b10], 2, 2, &[item; MAX_ITEMS], None);
+    of(&[0b01, 0b10], 2, 2, &[item; MAX_ITEMS + 1], Some(Refusal::Size));
+    of(&[0; 257], 257, 2, &[], Some(Refusal::Size));
+    of(&[0; 8], usize::MAX, 1, &[item, item], Some(Refusal::Size));
+    of(&[0; 8], 1, usize::MAX, &[shorter], Some(Refusal::Size));
+    of(&[0b01, 0b10, 0], 2, 2, &[item, item], Some(Refusal::Length));
+    of(&[0b01], 2, 2, &[item, item], Some(Refusal::Length));
+    of(&[0b01, 0b10], 2, 2, &[longer, shorter], Some(Refusal::Length));
+    of(&[0b01, 0b10], 2, 2, &[item, shorter, item], Some(Refusal::Length));
+    of(&[0b1], 1, 1, &[Item { weights: &[], job }], Some(Refusal::Length));
+    of(&[], 0, 0, &[], Some(Refusal::Empty));
+    of(&[], 2, 0, &[item, item], Some(Refusal::Empty));
+    of(&[0b01, 0b110], 2, 2, &[], Some(Refusal::SpareBit));
+    of(&[0b101, 0b10], 2, 2, &[item, item], Some(Refusal::SpareBit));
+    // The whole call is tested before any item.
+    of(&[0b01, 0b110], 2, 2, &[zero, zero], Some(Refusal::SpareBit));
+    let votes = Votes::from_bits(vec![0b01, 0b10], 2, 2);
+    assert_eq!(thin_all(&votes, &[zero, item], 1).unwrap(), [Err(Refusal::Zero), thin(&votes, item.weights, job)]);
+}
+
 /// What every call says of votes, with lists that fit m columns and n rows.
-fn everywhere(votes: &Votes) -> [Option<Refusal>; 4] {
+fn everywhere(votes: &Votes) -> [Option<Refusal>; 5] {
     let weights = vec![0.5; votes.columns()];
     let job = Job { seed: 1, edition: Edition::First, rule: Rule::Target(1) };
     [
         thin(votes, &weights, job).err(),
+        thin_all(votes, &[Item { weights: &weights, job }; 2], 1).err(),
         color(votes, 1).err(),
         max_margin_change(votes, &weights, &weights).err(),
         turned_words(votes, &weights, &weights, &vec![0.0; votes.rows()]).err(),
@@ -154,15 +220,15 @@ fn everywhere(votes: &Votes) -> [Option<Refusal>; 4] {
 #[test]
 fn sizes_and_lengths() {
     for (m, n) in [(MAX_COLUMNS + 1, 1), (1, MAX_ROWS + 1), (MAX_COLUMNS + 1, MAX_ROWS + 1), (MAX_COLUMNS + 1, 0)] {
-        assert_eq!(everywhere(&Votes::from_bools(&vec![vec![true; n]; m])), [Some(Refusal::Size); 4]);
+        assert_eq!(everywhere(&Votes::from_bools(&vec![vec![true; n]; m])), [Some(Refusal::Size); 5]);
     }
     // The second and the third have as many bytes as m and n say all the same.
     for lengths in [&[2usize, 1][..], &[2, 1, 3], &[9, 10, 16], &[8, 9], &[1, 9], &[0, 1], &[0, 9, 9], &[1, 0], &[16, 1, 1]] {
         let columns: Vec<Vec<bool>> = lengths.iter().map(|n| vec![true; *n]).collect();
-        assert_eq!(everywhere(&Votes::from_bools(&columns)), [Some(Refusal::Length); 4], "{lengths:?}");
+        assert_eq!(everywhere(&Votes::from_bools(&columns)), [Some(Refusal::Length); 5], "{lengths:?}");
     }
     for (m, n, bytes) in [(2, 9, 3), (2, 9, 5), (2, 8, 1), (2, 8, 4), (1, 1, 0), (0, 0, 1), (0, 9, 2), (3, 0, 1), (2, 9, 18)] {
-        assert_eq!(everywhere(&Votes::from_bits(vec![0; bytes], m, n)), [Some(Refusal::Length); 4], "{m} columns, {n} rows, {bytes} bytes");
+        assert_eq!(everywhere(&Votes::from_bits(vec![0; bytes], m, n)), [Some(Refusal::Length); 5], "{m} columns, {n} rows, {bytes} bytes");
     }
     for (m, n) in [(usize::MAX, 1), (1, usize::MAX), (1 << 61, 8)] {
         let votes = Votes::from_bits(vec![0; 8], m, n);
@@ -171,7 +237,7 @@ fn sizes_and_lengths() {
     }
     // No column or no row: a thinning alone minds.
     for votes in [Votes::from_bools::<Vec<bool>>(&[]), Votes::from_bools(&[[], [], []]), Votes::from_bits(vec![], 0, 9)] {
-        assert_eq!(everywhere(&votes), [Some(Refusal::Empty), None, None, None]);
+        assert_eq!(everywhere(&votes), [Some(Refusal::Empty), Some(Refusal::Empty), None, None, None]);
     }
 }
 
@@ -185,7 +251,7 @@ fn spare_bits() {
             bits[place / 8] |= 1 << (place % 8);
             let spare = place % (8 * stride) >= n;
             let expected = if spare { Some(Refusal::SpareBit) } else { None };
-            assert_eq!(everywhere(&Votes::from_bits(bits, m, n)), [expected; 4], "{n} rows, bit {place}");
+            assert_eq!(everywhere(&Votes::from_bits(bits, m, n)), [expected; 5], "{n} rows, bit {place}");
         }
     }
 }
@@ -268,12 +334,44 @@ impl Call {
                 ),
             }
         };
-        if answer.number != 0 {
-            assert_eq!((answer.stage, answer.nonzeros, answer.change, answer.directions, answer.sweeps), (0, 0, 0.0, 0, 0));
-            assert!((answer.path_nonzeros, answer.path_change) == ([0; 9], [0.0; 9]));
-        }
+        assert!(answer.number == 0 || zero(&answer));
         lent.hold(answer.number, 77.0);
         answer.number
+    }
+
+    /// The number of the call for several items, or else that of each of them: all have the job of this call. The lengths are those of
+    /// weights, seeds, editions, rules, allowances, limits and output.
+    fn thinned_all(&self, items: usize, lengths: [usize; 7]) -> Result<Vec<u64>, u64> {
+        let mut lent = Call { places: lengths[6], ..self.clone() }.lent(77.0);
+        let weights: Vec<f64> = self.weights.iter().copied().cycle().take(lengths[0]).collect();
+        let (seeds, editions, rules) = (vec![5; lengths[1]], vec![self.edition; lengths[2]], vec![self.rule; lengths[3]]);
+        let (allowances, limits) = (vec![self.allowance; lengths[4]], vec![self.limit as u64; lengths[5]]);
+        let noise = Answer { number: 77, stage: 77, ..Answer::default() };
+        let mut answers = Answers { number: 77, items: [noise; MAX_ITEMS] };
+        let (output, numbers, indices) = (lent.output.as_mut_ptr(), lent.numbers.as_mut_ptr(), lent.indices.as_mut_ptr());
+        let (places, floats, words) = (lent.output.len(), lent.numbers.len(), lent.indices.len());
+        #[rustfmt::skip]
+        unsafe {
+            archive::knob_thin_all_bits(
+                &mut answers, self.bits.as_ptr(), self.bits.len(), self.m, self.n, items, weights.as_ptr(), weights.len(),
+                seeds.as_ptr(), seeds.len(), editions.as_ptr(), editions.len(), rules.as_ptr(), rules.len(),
+                allowances.as_ptr(), allowances.len(), limits.as_ptr(), limits.len(), output, places, numbers, floats, indices, words,
+            )
+        };
+        if answers.number != 0 {
+            assert!(answers.items.iter().all(|answer| answer.number == 0 && zero(answer)));
+            lent.hold(answers.number, 77.0);
+            return Err(answers.number);
+        }
+        assert!(answers.items[items..].iter().all(|answer| answer.number == 0 && zero(answer)));
+        // The scratch is zero also where every item is refused, and a refused item's part of the output is as it was.
+        for (answer, part) in answers.items.iter().zip(lent.output.chunks(self.m)) {
+            assert!(answer.number == 0 || zero(answer));
+            assert!(part.iter().all(|weight| (*weight == 77.0) == (answer.number != 0)));
+        }
+        lent.output.clear();
+        lent.hold(0, 77.0);
+        Ok(answers.items[..items].iter().map(|answer| answer.number).collect())
     }
 
     fn colored(&self) -> u64 {
@@ -318,6 +416,12 @@ impl Call {
         assert!(number == 0 || count == 0);
         number
     }
+}
+
+/// All but the number.
+fn zero(answer: &Answer) -> bool {
+    let counts = [answer.stage, answer.nonzeros, answer.change.to_bits(), answer.directions, answer.sweeps];
+    counts == [0; 5] && answer.path_nonzeros == [0; 9] && answer.path_change.map(f64::to_bits) == [0; 9]
 }
 
 impl<T: PartialEq> Lent<T> {
@@ -395,6 +499,58 @@ fn other_lengths_and_rules() {
     // What a rule does not use is not looked at.
     assert_eq!(Call { rule: 0, allowance: f64::NAN, ..Call::good() }.thinned(2), 0);
     assert_eq!(Call { rule: 1, limit: 0, ..Call::good() }.thinned(2), 0);
+}
+
+/// The call for several items, with every fault at once, which are mended one after the other; and each list of another length by itself.
+#[test]
+fn refusals_of_several_items() {
+    let (good, right) = (Call::good(), [6, 3, 3, 3, 3, 3, 6]);
+    let mut call = Call {
+        bits: vec![],
+        m: 257,
+        n: 0,
+        weights: vec![f64::NAN, 0.0],
+        edition: 3,
+        limit: 0,
+        allowance: -1.0,
+        short: true,
+        ..good.clone()
+    };
+    assert_eq!(call.thinned_all(3, [7; 7]), Err(3));
+    call.m = good.m;
+    assert_eq!(call.thinned_all(MAX_ITEMS + 1, [7; 7]), Err(3));
+    assert_eq!(call.thinned_all(3, [7; 7]), Err(4));
+    assert_eq!(call.thinned_all(3, right), Err(5));
+    (call.n, call.bits) = (good.n, vec![0b000, 0b1110]);
+    assert_eq!(call.thinned_all(3, right), Err(6));
+    call.short = false;
+    assert_eq!(call.thinned_all(3, right), Err(15));
+    assert_eq!(call.thinned_all(0, [0; 7]), Err(15));
+    call.bits.clone_from(&good.bits);
+    assert_eq!(call.thinned_all(3, right), Ok(vec![1; 3]));
+    call.allowance = f64::INFINITY;
+    assert_eq!(call.thinned_all(3, right), Ok(vec![12; 3]));
+    call.allowance = good.allowance;
+    assert_eq!(call.thinned_all(3, right), Ok(vec![2; 3]));
+    call.limit = good.limit;
+    assert_eq!(call.thinned_all(3, right), Ok(vec![13; 3]));
+    call.edition = good.edition;
+    assert_eq!(call.thinned_all(3, right), Ok(vec![8; 3]));
+    call.weights = vec![0.0, -0.0];
+    assert_eq!(call.thinned_all(3, right), Ok(vec![9; 3]));
+    call.weights.clone_from(&good.weights);
+    assert_eq!(call.thinned_all(3, right), Ok(vec![0; 3]));
+    assert_eq!(call.thinned_all(0, [0; 7]), Ok(vec![]));
+    assert_eq!(call.thinned_all(64, [128, 64, 64, 64, 64, 64, 128]), Ok(vec![0; 64]));
+    for (list, more) in (0..7).flat_map(|list| [(list, true), (list, false)]) {
+        let mut lengths = right;
+        lengths[list] = if more { right[list] + 1 } else { right[list] - 1 };
+        assert_eq!(good.thinned_all(3, lengths), Err(4), "list {list}");
+    }
+    for bits in [vec![0b000], vec![0b000, 0b110, 0b000], vec![0; 6]] {
+        assert_eq!(Call { bits, ..good.clone() }.thinned_all(3, right), Err(4));
+    }
+    assert_eq!(Call { rule: 3, ..good }.thinned_all(3, right), Ok(vec![2; 3]));
 }
 
 /// By references and pointers, as a host may have them.
