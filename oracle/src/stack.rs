@@ -1,4 +1,4 @@
-// needs: knob_discrepancy_coloring knob_sparsify knob_sparsify_within knob_thin_all knob_thin_votes knob_max_margin_change knob_turned_words knob_thin_sheet knob_moved_sheet knob_moved knob_moved_again knob_write_sheet knob_read_sheet knob_salvage knob_sparsify_bits knob_sparsify_within_bits knob_thin_bits knob_discrepancy_coloring_bits knob_max_margin_change_bits knob_turned_words_bits
+// needs: knob_discrepancy_coloring knob_sparsify knob_sparsify_within knob_thin_all knob_thin_votes knob_max_margin_change knob_turned_words knob_thin_sheet knob_moved_sheet knob_moved knob_moved_again knob_write_sheet knob_read_sheet knob_salvage knob_sparsify_bits knob_sparsify_within_bits knob_thin_bits knob_thin_all_bits knob_discrepancy_coloring_bits knob_max_margin_change_bits knob_turned_words_bits
 //! The stack that each call uses, at the largest sizes: the stack below a call is painted before it, and what is left of the paint is
 //! counted after it. The lent scratch is all else that a call may use, so this is its whole memory. The calls that answer a sheet
 //! or save one have their scratch on the stack too, and so may use twice as much.
@@ -128,6 +128,16 @@ fn on_bits(tally: &mut Tally, chance: &mut Chance) {
     measure("thin_bits", ALLOWED, tally, || unsafe {
         bits_calls::knob_thin_bits(&mut answer, bits, bytes, m, n, w, m, 1, 2, 2, 0.1, 4, out, m, floats, many, words, more);
         answer.number
+    });
+    let mut answers = batch_call::Answers::noise();
+    let (all, mut outputs) = (weights.repeat(2), vec![0.0; 2 * m]);
+    measure("thin_all_bits", ALLOWED, tally, || unsafe {
+        let (seeds, editions, rules, allowances, limits) = ([1u64, 2], [1u32, 2], [0u32, 2], [0.0, 0.1], [4u64, 4]);
+        batch_call::knob_thin_all_bits(
+            &mut answers, bits, bytes, m, n, 2, all.as_ptr(), 2 * m, seeds.as_ptr(), 2, editions.as_ptr(), 2, rules.as_ptr(), 2,
+            allowances.as_ptr(), 2, limits.as_ptr(), 2, outputs.as_mut_ptr(), 2 * m, floats, many, words, more,
+        );
+        answers.number + answers.items[0].number + answers.items[1].number
     });
     measure("discrepancy_coloring_bits", ALLOWED, tally, || unsafe {
         let mut colored = coloring_call::Colored::noise();
