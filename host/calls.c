@@ -626,8 +626,8 @@ static void thin_all_bits(void) {
     static const uint64_t seeds[] = {3, 5, 4}, limits[] = {7, 0, 5};
     static const uint32_t editions[] = {2, 1, 1}, rules[] = {0, 0, 2};
     static const double allowances[] = {0.75, 0.25, 0.03125};
-    const size_t m = 24, n = 19, items = 3, bits_length = 72, matrix_length = 456;
-    const size_t numbers_length = KNOB_NUMBERS(24, 19), indices_length = KNOB_INDICES(24, 19);
+    const size_t m = 24, n = 11, items = 3, bits_length = 48, matrix_length = 264;
+    const size_t numbers_length = KNOB_NUMBERS(24, 11), indices_length = KNOB_INDICES(24, 11);
     knob_answer first, third;
     double expected[73];
     fill_votes(m, n);
@@ -666,7 +666,7 @@ static void thin_all_bits(void) {
         hold("knob_thin_all_bits, its third item", memcmp(&all.items[2], &third, sizeof third) == 0);
         hold("knob_thin_all_bits, past the items", answers(all.items[3], 0, 0, 0, 0, 0, 0) && answers(all.items[63], 0, 0, 0, 0, 0, 0));
         hold("knob_thin_all_bits", memcmp(output_room, expected, sizeof expected) == 0 && wiped(numbers_length, indices_length));
-        bits_room[3 * 5 + 2] |= 0x08; /* column 5, row 19, of which there is none */
+        bits_room[2 * 5 + 1] |= 0x08; /* column 5, row 11, of which there is none */
         lend();
         const knob_answers none = CALL_knob_thin_all_bits;
         hold("knob_thin_all_bits, a spare bit",

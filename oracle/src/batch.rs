@@ -303,7 +303,6 @@ impl Comparison {
             let (c, sizes) = spoiled(self.on_bits, chance);
             self.call(&c, sizes, chance);
         }
-        self.domain.tell();
     }
 
     fn item(&mut self, c: &Call, k: usize, a: &Answer, part: &[u64], before: &[u64]) {
@@ -441,6 +440,8 @@ fn main() {
     for (m, n) in [(256, 1), (1, 4096), (3, 4095), (257, 1), (1, 4097)].into_iter().chain((1..=24).map(|n| (9, n))) {
         bits.fitting(m, n, 3, &mut chance);
     }
+    doubles.domain.tell();
+    bits.domain.tell();
     let all: Vec<&Tally> = doubles.tallies().into_iter().chain(bits.tallies()).collect();
     end(&all)
 }
