@@ -14,12 +14,12 @@ use Rattle.seq.specs.Sums.{plusZero}
 use Rattle.seq.proofs.Filling.{length-tab}
 use Rattle.seq.proofs.Parts.{length-part, length-placed, part-same, part-below, part-add}
 use Rattle.linear.specs.Vectors.{dotOf}
-use Rattle.linear.proofs.Bases.{length-projected}
-use Rattle.entries.specs.Rows.{times}
+use Rattle.basis.proofs.Bases.{length-projected}
+use Rattle.chosen.specs.Rows.{times}
 use Rattle.direction.specs.Direction.{zeroed, directed, uphill, turned}
 use Rattle.direction.specs.Step.{reachTo, moved, along}
 use Rattle.advance.specs.Advancing.{uphillIn, reachIn, Downhill, Advanced}
-use Rattle.freeze.proofs.Scratch.{drop-placed}
+use Rattle.blocking.proofs.Scratch.{drop-placed}
 
 -- ---- lengths
 

@@ -9,9 +9,9 @@ use lib.Ieee.Scale.{finite}
 use Rattle.seq.specs.Choice.{pick}
 use Rattle.seq.specs.Sums.{plusZero}
 use Rattle.direction.specs.Direction.{uphill, turned}
-use Rattle.entries.specs.Rows.{times}
+use Rattle.chosen.specs.Rows.{times}
 use Rattle.direction.specs.Step.{reachTo, moved, along}
-use Rattle.freeze.specs.Held.{axIn, agIn}
+use Rattle.blocking.specs.Held.{axIn, agIn}
 
 -- whether g leads uphill from the A x that numbers holds
 abbrev pub uphillIn : (ℕ → ℕ → Float) → ℕ → List Float → List Float → Bool

@@ -9,8 +9,8 @@ use linear::dot;
 ghost use mathlib.Core.Path.{_≡_};
 ghost use Prim.Native.Nat.{_≤_, _+_};
 ghost use lib.ListN.{length};
-ghost use Rattle.entries.specs.Entries.{entryOf};
-ghost use Rattle.entries.specs.ChosenColumns.{Chosen};
+ghost use Rattle.chosen.specs.Entries.{entryOf};
+ghost use Rattle.chosen.specs.ChosenColumns.{Chosen};
 ghost use Rattle.advance.specs.Advancing.{Downhill, Advanced};
 
 // A g beside A x, both turned where the direction leads uphill.

@@ -17,7 +17,7 @@ use Rattle.fields.specs.Texts.{bitsText, countText, tabbed, noteText}
 use Rattle.fields.specs.Steps.{WroteOn}
 use Rattle.fields.proofs.Widths.{length-bits, length-count, width-most}
 use Rattle.fields.proofs.Puts.{on-two, length-tabbed, length-note}
-use Rattle.sparsification.specs.declared.Answer.{Answer}
+use Rattle.answers.specs.declared.Answer.{Answer}
 use Rattle.answering.specs.Words.{okWord, weightWord, refusedWord}
 use Rattle.answering.specs.Answer.{okLine, weightLine, weightLines, answerText}
 use Rattle.answering.specs.Steps.{Wrote}

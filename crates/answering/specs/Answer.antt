@@ -8,7 +8,7 @@ use Rattle.seq.specs.Choice.{pick}
 use Rattle.seq.specs.Sums.{at}
 use Rattle.fields.specs.Bytes.{tab, newline}
 use Rattle.fields.specs.Texts.{bitsText, countText, noteText}
-use Rattle.sparsification.specs.declared.Answer.{Answer}
+use Rattle.answers.specs.declared.Answer.{Answer}
 use Rattle.answering.specs.Words.{okWord, weightWord, refusedWord}
 
 -- the line of weight j

@@ -1,9 +1,9 @@
 // The text of a job's answer, written in a buffer.
-use fields::put_bits;
-use fields::put_note;
-use fields::put_tabbed;
-use fields::put_word;
-use sparsification::Answer;
+use answers::Answer;
+use putting::put_bits;
+use putting::put_note;
+use putting::put_tabbed;
+use putting::put_word;
 ghost use mathlib.Core.Path.{_≡_};
 ghost use Prim.Native.Nat.{_+_, _≤_, _*_};
 ghost use mathlib.Core.List.{[], _∷_, _++_};

@@ -1,6 +1,7 @@
 // Replays an archive of 37 jobs: number, stage, nonzero entries, change, directions, sweeps, path and weights of each, doubles in
 // hexadecimal. The file stdout holds what the original answers for them, but for the last, whose allowance is infinite and which is
 // refused. Entries and weights are made by the generator from the job's seed.
+use answers::Answer;
 use draw::SplitMix64;
 use report::print_answer;
 use report::print_path;
@@ -8,7 +9,6 @@ use report::print_totals;
 use report::print_weights;
 use report::put;
 use rules::Cap;
-use sparsification::Answer;
 use sparsification::sparsify;
 use sparsification::sparsify_within;
 ghost use Prim.Native.Nat.{_≤_, _<_};

@@ -13,10 +13,10 @@ use lib.Ieee.{Float}
 use Rattle.seq.specs.Choice.{pick, orElse}
 use Rattle.limits.specs.Limits.{tooLarge, scratchShort, numbersNeeded, indicesNeeded}
 use Rattle.rules.specs.declared.Rule.{Rule}
-use Rattle.sparsification.specs.declared.Answer.{Answer}
+use Rattle.answers.specs.declared.Answer.{Answer}
 use Rattle.rules.specs.Rules.{ruleFault}
 use Rattle.faults.specs.Faults.{editionFault, sizeFault, valueFault, jobFault}
-use Rattle.sparsification.specs.Answers.{refusal, answerOf, returned, Thinned}
+use Rattle.answers.specs.Answers.{refusal, answerOf, returned, Thinned}
 use Rattle.answering.specs.Answer.{answerText}
 use Rattle.asking.specs.Jobs.{sheetFault, jobAnswer, jobText}
 use Rattle.answering.specs.Steps.{Wrote}

@@ -10,8 +10,8 @@ use Rattle.draw.specs.SplitMix.{seeded}
 use Rattle.rules.specs.declared.Rule.{Rule}
 use Rattle.rules.specs.Rules.{ruleFault}
 use Rattle.faults.specs.Faults.{valueFault}
-use Rattle.sparsification.specs.declared.Answer.{Answer}
-use Rattle.sparsification.specs.Answers.{refusal, answerOf, returned}
+use Rattle.answers.specs.declared.Answer.{Answer}
+use Rattle.answers.specs.Answers.{refusal, answerOf, returned}
 use Rattle.head.specs.declared.Head.{Head}
 use Rattle.answering.specs.Answer.{answerText}
 

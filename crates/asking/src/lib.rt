@@ -1,7 +1,7 @@
 // The job of a sheet: read from its bytes, thinned, and answered in a buffer.
 use answering::put_answer;
-use form::read_matrix;
-use form::read_weights;
+use contents::read_matrix;
+use contents::read_weights;
 use head::Head;
 use rules::Rule;
 use sparsification::Job;

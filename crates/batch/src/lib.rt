@@ -1,45 +1,28 @@
 // Several jobs on one matrix, of doubles or of bits, in one call: the matrix is tested once, and each item has what thin gives on its own.
+use answers::Answer;
+use answers::refused;
+use callfaults::bits_whole_fault;
+use callfaults::whole_fault;
 use draw::SplitMix64;
-use faults::bits_whole_fault;
 use faults::item_fault;
 use faults::named_rule;
-use faults::whole_fault;
+use items::Answers;
+use items::no_answers;
 use rules::Rule;
 use seq::clear;
 use seq::clear_words;
-use sparsification::Answer;
-use sparsification::refused;
 use sparsification::thin_sound;
 ghost use mathlib.Core.Path.{_≡_};
 ghost use mathlib.Core.Bool.{true};
 ghost use lib.ListN.{length};
-ghost use Rattle.seq.specs.Lists.{repeated};
 ghost use Rattle.ieee.specs.Constants.{one};
 ghost use Rattle.limits.specs.Limits.{bounded};
 ghost use Rattle.faults.specs.Faults.{sizeFault};
-ghost use Rattle.sparsification.specs.Answers.{refusal, Thinned};
-ghost use Rattle.batch.specs.All.{callFault, AllThinned, ThinnedAll, BitsThinnedAll};
-ghost use Rattle.batch.specs.Items.{listed};
-ghost use Rattle.batch.specs.Lent.{lentAs, Lent};
-ghost use Rattle.batch.specs.Between.{Tested, Zeros, Each};
-
-// The refusal number of the call as a whole or 0, and the answer of each item; zeros past the last.
-#[repr(C)]
-pub struct Answers {
-    pub number: u64,
-    pub items: [Answer; 64],
-}
-
-// No answers: zeros.
-fn no_answers(number: u64) -> Answers
-    ensures { λ r. ⌜ (r .number ≡ number) × (r .items ≡ repeated (refusal 0) 64) ⌝ }
-{
-    let none = refused(0);
-    Answers {
-        number,
-        items: [none; 64],
-    }
-}
+ghost use Rattle.answers.specs.Answers.{Thinned};
+ghost use Rattle.items.specs.All.{callFault, AllThinned, ThinnedAll, BitsThinnedAll};
+ghost use Rattle.items.specs.Items.{listed};
+ghost use Rattle.items.specs.Lent.{lentAs, Lent};
+ghost use Rattle.items.specs.Between.{Tested, Zeros, Each};
 
 // Thins one item, of a call whose sizes and matrix have been tested.
 fn thin_item(

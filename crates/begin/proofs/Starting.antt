@@ -15,15 +15,15 @@ use Rattle.seq.specs.Indices.{Pushed}
 use Rattle.seq.proofs.Filling.{length-tab}
 use Rattle.seq.proofs.Parts.{length-part, length-placed, part-same, part-below}
 use Rattle.seq.proofs.Sorting.{length-sorted, sorted-all, take-all-of}
-use Rattle.linear.specs.Held.{Inserted}
-use Rattle.entries.specs.Rows.{rowOf, rowNorms, firstRows}
+use Rattle.basis.specs.Held.{Inserted}
+use Rattle.chosen.specs.Rows.{rowOf, rowNorms, firstRows}
 use Rattle.order.specs.Order.{comesFirst}
-use Rattle.freeze.specs.Freeze.{blocking}
+use Rattle.blocking.specs.Freeze.{blocking}
 use Rattle.begin.specs.Begin.{blockTo, marksTo}
-use Rattle.freeze.specs.Held.{axIn, basisIn}
+use Rattle.blocking.specs.Held.{axIn, basisIn}
 use Rattle.begin.specs.Beginning.{BlockedFirst, Begun}
-use Rattle.freeze.proofs.Scratch.{back-front}
-use Rattle.freeze.proofs.Freezing.{offered-basis, offered-most}
+use Rattle.blocking.proofs.Scratch.{back-front}
+use Rattle.blocking.proofs.Freezing.{offered-basis, offered-most}
 
 -- what holds after the first k of the rows were blocked
 pub record Blocking (a : ℕ → ℕ → Float) (l : ℕ) (first : List ℕ) (numbers₀ : List Float) (rows : ℕ) (v₀ numbers : List Float)

@@ -4,8 +4,8 @@ use mathlib.Core.List.{List, []}
 use lib.ListN.{length, getD, set}
 use lib.Ieee.{Float}
 use Rattle.seq.specs.Lists.{repeated}
-use Rattle.entries.specs.Rows.{firstRows}
-use Rattle.freeze.specs.Freeze.{Walk, blocking}
+use Rattle.chosen.specs.Rows.{firstRows}
+use Rattle.blocking.specs.Freeze.{Walk, blocking}
 use Rattle.draw.specs.declared.SplitMix64.{SplitMix64}
 
 -- the basis after the first k of some rows were blocked, in order

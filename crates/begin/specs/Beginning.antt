@@ -5,9 +5,9 @@ use mathlib.Core.List.{List}
 use lib.ListN.{length}
 use lib.Ieee.{Float}
 use Rattle.seq.specs.Sums.{plusZero}
-use Rattle.entries.specs.Rows.{firstRows}
+use Rattle.chosen.specs.Rows.{firstRows}
 use Rattle.begin.specs.Begin.{blockTo, marksTo}
-use Rattle.freeze.specs.Held.{axIn, basisIn}
+use Rattle.blocking.specs.Held.{axIn, basisIn}
 
 -- some rows were blocked in order
 pub record BlockedFirst (a : ℕ → ℕ → Float) (l : ℕ) (first : List ℕ) (numbers : List Float) (rows r : ℕ)

@@ -1,14 +1,14 @@
 // The start of a phase: the rows most at risk are blocked.
+use blocking::block_row;
 use entries::norms_into;
-use freeze::block_row;
 use order::first_rows;
 use seq::clear_words;
 ghost use mathlib.Core.Path.{_≡_};
 ghost use Prim.Native.Nat.{ℕ, _≤_, _<_, _*_, _+_};
 ghost use lib.ListN.{length, getD};
 ghost use Rattle.seq.specs.Lists.{repeated};
-ghost use Rattle.entries.specs.Entries.{entryOf};
-ghost use Rattle.entries.specs.ChosenColumns.{Chosen};
+ghost use Rattle.chosen.specs.Entries.{entryOf};
+ghost use Rattle.chosen.specs.ChosenColumns.{Chosen};
 ghost use Rattle.begin.specs.Beginning.{BlockedFirst, Begun};
 
 // Blocks some rows, in order; how many vectors the basis then has. v is room for a row.

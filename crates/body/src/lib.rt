@@ -1,6 +1,6 @@
 // The lines of a sheet's columns, written each where the one before it ends.
-use fields::put_bits;
-use fields::put_word;
+use putting::put_bits;
+use putting::put_word;
 ghost use mathlib.Core.Path.{_≡_};
 ghost use mathlib.Core.List.{_∷_};
 ghost use Prim.Native.Nat.{_+_, _*_, _≤_};

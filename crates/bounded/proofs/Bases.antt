@@ -21,7 +21,7 @@ use Rattle.ieee.specs.Units.{mag}
 use Rattle.ieee.proofs.Ops.{Finite}
 use Rattle.root.specs.Root.{sqrtOf}
 use Rattle.linear.specs.Vectors.{dotOf, normOf}
-use Rattle.linear.specs.Basis.{lessAt, stripped, passTo, projected, dropTolerance, taken, overAt, unit, inserted}
+use Rattle.basis.specs.Basis.{lessAt, stripped, passTo, projected, dropTolerance, taken, overAt, unit, inserted}
 use Rattle.bounded.proofs.Within.{Within, K, Kind, drawn, row, bits, grain, Vec}
 use Rattle.bounded.proofs.Dot.{dot}
 use Rattle.bounded.proofs.Squares.{sq, total-ge, total-most, root-le, squared}

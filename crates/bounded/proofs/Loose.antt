@@ -31,7 +31,7 @@ use Rattle.ieee.proofs.SignedSums.{sumSize}
 use Rattle.root.specs.Root.{sqrtOf}
 use Rattle.root.proofs.RootResults.{sqrt-size}
 use Rattle.linear.specs.Vectors.{dotOf, normOf}
-use Rattle.linear.specs.Basis.{lessAt, stripped, passTo, projected, dropTolerance, taken, overAt, unit, inserted}
+use Rattle.basis.specs.Basis.{lessAt, stripped, passTo, projected, dropTolerance, taken, overAt, unit, inserted}
 use Rattle.reaching.specs.Whole.{About}
 use Rattle.reaching.proofs.Close.{mul-about}
 use Rattle.reaching.proofs.Divide.{sub-rounded}

@@ -21,7 +21,7 @@ use Rattle.ieee.proofs.Sums.{Size, sum-size, sum-ge}
 use Rattle.ieee.proofs.Products.{mul-units}
 use Rattle.root.specs.Root.{sqrtOf}
 use Rattle.root.proofs.RootCases.{zero-root}
-use Rattle.linear.specs.Basis.{dropTolerance}
+use Rattle.basis.specs.Basis.{dropTolerance}
 use Rattle.bounded.proofs.Within.{Within, K, Vec, fewer}
 use Rattle.bounded.proofs.Dot.{dot}
 use Rattle.bounded.proofs.Squares.{squared, root-le}

@@ -1,4 +1,5 @@
 // The colouring of chosen and scaled columns: phases of the walk until no coordinate is free, then local search.
+use colored::Counted;
 use draw::SplitMix64;
 use entries::times_into;
 use phasing::next_phase;
@@ -9,28 +10,21 @@ ghost use mathlib.Core.Path.{_≡_};
 ghost use Prim.Native.Nat.{_≤_, _*_, _+_};
 ghost use lib.ListN.{length};
 ghost use Rattle.seq.specs.Sums.{plusZero};
-ghost use Rattle.entries.specs.Rows.{times};
-ghost use Rattle.search.specs.Search.{searched};
-ghost use Rattle.search.specs.Searching.{searchedIn};
-ghost use Rattle.walk.specs.Walk.{freeOnes};
-ghost use Rattle.coloring.specs.Coloring.{walked, coloringOf};
-ghost use Rattle.entries.specs.Entries.{entryOf};
-ghost use Rattle.entries.specs.ChosenColumns.{Chosen};
-ghost use Rattle.freeze.specs.Held.{Roomy};
-ghost use Rattle.phasing.specs.Phasing.{between};
-ghost use Rattle.coloring.specs.Fresh.{Fresh, ColoredAs};
+ghost use Rattle.chosen.specs.Rows.{times};
+ghost use Rattle.flipping.specs.Search.{searched};
+ghost use Rattle.flipping.specs.Searching.{searchedIn};
+ghost use Rattle.walked.specs.Walk.{freeOnes};
+ghost use Rattle.colored.specs.Coloring.{walked, coloringOf};
+ghost use Rattle.chosen.specs.Entries.{entryOf};
+ghost use Rattle.chosen.specs.ChosenColumns.{Chosen};
+ghost use Rattle.blocking.specs.Held.{Roomy};
+ghost use Rattle.phased.specs.Phasing.{between};
+ghost use Rattle.colored.specs.Fresh.{Fresh, ColoredAs};
 
 // How many directions were drawn, and the generator after them.
 struct Drawn {
     directions: usize,
     rng: SplitMix64,
-}
-
-// What a colouring leaves beside the colours: how many directions were drawn, how many sweeps made, and the generator after it.
-pub struct Counted {
-    pub directions: usize,
-    pub sweeps: usize,
-    pub rng: SplitMix64,
 }
 
 // How many marks are set.

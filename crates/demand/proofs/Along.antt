@@ -18,7 +18,7 @@ use Rattle.ieee.proofs.Normalised.{Normal}
 use Rattle.ieee.proofs.Tests.{positive-of-tests}
 use Rattle.ieee.proofs.Zeros.{sum-fits}
 use Rattle.weights.specs.Weights.{l1Of, normalized}
-use Rattle.halving.proofs.Left.{normalized-some, pass-some}
+use Rattle.passed.proofs.Left.{normalized-some, pass-some}
 use Rattle.rules.specs.declared.Rule.{Rule}
 use Rattle.stages.specs.Stages.{stageOf, movedBy}
 use Rattle.stages.specs.Stopping.{entriesAt}
@@ -27,10 +27,10 @@ use Rattle.stages.proofs.Lengths.{length-normalized, length-stage}
 use Rattle.stages.proofs.Passing.{falling, normal-stage}
 use Rattle.stages.proofs.Following.{path-at, nine-stages}
 use Rattle.stages.proofs.Totals.{job-directions, job-sweeps}
-use Rattle.sparsification.specs.Answers.{answerAt, stopFor, Thinned}
+use Rattle.answers.specs.Answers.{answerAt, stopFor, Thinned}
 use Rattle.demand.specs.Demand.{keeps}
-use Rattle.sparsification.specs.declared.Answer.{Answer}
-use Rattle.sparsification.proofs.Accepting.{Accepted, accepted, number-none, answer-stage}
+use Rattle.answers.specs.declared.Answer.{Answer}
+use Rattle.answers.proofs.Accepting.{Accepted, accepted, number-none, answer-stage}
 use Rattle.demand.proofs.DemandThree.{Doubles, start-normal, start-few, kept-there}
 use Rattle.draw.specs.declared.SplitMix64.{SplitMix64}
 

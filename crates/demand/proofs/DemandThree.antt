@@ -15,9 +15,9 @@ use Rattle.ieee.proofs.Normalised.{Normal}
 use Rattle.weights.specs.Weights.{normalized}
 use Rattle.stages.specs.Stopping.{stopOf}
 use Rattle.rules.specs.Rules.{ruleFault}
-use Rattle.sparsification.specs.Answers.{answerAt, stopFor, Thinned}
+use Rattle.answers.specs.Answers.{answerAt, stopFor, Thinned}
 use Rattle.demand.specs.Demand.{allows, keeps, Later}
-use Rattle.sparsification.specs.declared.Answer.{Answer}
+use Rattle.answers.specs.declared.Answer.{Answer}
 use Rattle.rules.specs.declared.Cap.the-variants.{Absent, AtMost}
 use Rattle.rules.specs.declared.Rule.{Rule}
 use Rattle.rules.specs.declared.Rule.the-variants.{Target, Within}
@@ -25,7 +25,7 @@ use Rattle.stages.proofs.Halting.{stop-is-first}
 use Rattle.stages.proofs.Lengths.{length-normalized}
 use Rattle.stages.proofs.Passing.{falling, signed-stage, normal-start}
 use Rattle.demand.proofs.Monotone.{Double, no-sooner, among-stops, target-kept, cap-kept, allowance-kept}
-use Rattle.sparsification.proofs.Accepting.{Accepted, accepted, number-none, answer-stage, output-stage}
+use Rattle.answers.proofs.Accepting.{Accepted, accepted, number-none, answer-stage, output-stage}
 use Rattle.draw.specs.declared.SplitMix64.{SplitMix64}
 
 -- every weight is a double

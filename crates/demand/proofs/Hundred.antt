@@ -11,15 +11,15 @@ use Rattle.seq.specs.Sums.{plusZero, at}
 use Rattle.limits.specs.Matrix.{columnsOf}
 use Rattle.ieee.proofs.Normalised.{Normal}
 use Rattle.weights.specs.Weights.{nonzeros, normalized}
-use Rattle.halving.proofs.Fewer.{sum-sound}
-use Rattle.halving.proofs.Quarter.{pass-at-most}
+use Rattle.passed.proofs.Fewer.{sum-sound}
+use Rattle.passed.proofs.Quarter.{pass-at-most}
 use Rattle.stages.specs.Stages.{stageOf}
 use Rattle.stages.specs.Stopping.{entriesAt, stops}
-use Rattle.sparsification.specs.Answers.{Thinned}
-use Rattle.sparsification.specs.declared.Answer.{Answer}
+use Rattle.answers.specs.Answers.{Thinned}
+use Rattle.answers.specs.declared.Answer.{Answer}
 use Rattle.rules.specs.declared.Rule.the-variants.{Target}
 use Rattle.stages.proofs.Halting.{FirstStop}
-use Rattle.sparsification.proofs.Accepting.{accepted, number-none}
+use Rattle.answers.proofs.Accepting.{accepted, number-none}
 use Rattle.demand.proofs.DemandThree.{Doubles, start-normal, start-few}
 use Rattle.demand.proofs.Settled.{settled}
 use Rattle.draw.specs.declared.SplitMix64.{SplitMix64}

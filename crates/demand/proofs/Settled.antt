@@ -9,18 +9,18 @@ use Rattle.seq.specs.Sums.{plusZero, at}
 use Rattle.limits.specs.Matrix.{columnsOf}
 use Rattle.ieee.proofs.Normalised.{Normal}
 use Rattle.weights.specs.Weights.{normalized}
-use Rattle.halving.specs.Alone.{Largest, Alone}
-use Rattle.halving.proofs.Few.{largest-alone}
+use Rattle.passed.specs.Alone.{Largest, Alone}
+use Rattle.passed.proofs.Few.{largest-alone}
 use Rattle.stages.specs.Stages.{stageOf}
 use Rattle.stages.specs.Stopping.{entriesAt}
 use Rattle.faults.specs.Faults.{jobFault}
-use Rattle.sparsification.specs.Answers.{answerAt, Thinned}
-use Rattle.sparsification.specs.declared.Answer.{Answer}
+use Rattle.answers.specs.Answers.{answerAt, Thinned}
+use Rattle.answers.specs.declared.Answer.{Answer}
 use Rattle.rules.specs.declared.Rule.{Rule}
 use Rattle.stages.proofs.Halting.{Leads, FirstStop, only, stop-is-first}
 use Rattle.stages.proofs.Lengths.{length-stage}
 use Rattle.stages.proofs.Passing.{falling, normal-stage}
-use Rattle.sparsification.proofs.Accepting.{accepted, number-there, answer-stage, output-stage}
+use Rattle.answers.proofs.Accepting.{accepted, number-there, answer-stage, output-stage}
 use Rattle.demand.proofs.DemandThree.{Doubles, start-normal, start-few}
 use Rattle.draw.specs.declared.SplitMix64.{SplitMix64}
 

@@ -14,7 +14,7 @@ use borrow.Author.Tests.{le-ltb}
 use Rattle.seq.specs.Choice.{pick}
 use Rattle.seq.specs.Sums.{plusZero, at}
 use Rattle.ieee.specs.Magnitude.{maxAbsTo, absOf, largerOf}
-use Rattle.margins.specs.Margins.{changeTo, maxChange}
+use Rattle.change.specs.Margins.{changeTo, maxChange}
 use Rattle.ieee.specs.Units.{mag}
 use Rattle.ieee.proofs.Grid.{rounded}
 use Rattle.ieee.proofs.Ops.{grid-zero}

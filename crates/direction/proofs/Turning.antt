@@ -15,7 +15,7 @@ use Rattle.seq.proofs.Filling.{Filled, turn, still, still-after}
 use Rattle.seq.proofs.Parts.{getD-part, length-part}
 use Rattle.ieee.specs.Magnitude.{signumOf, smallerOf}
 use Rattle.linear.specs.Vectors.{normOf}
-use Rattle.linear.specs.Basis.{projected}
+use Rattle.basis.specs.Basis.{projected}
 use Rattle.direction.specs.Direction.{degenerate, zeroed, directed, tooShort}
 use Rattle.direction.specs.Step.{reachTo, along, alongAt}
 

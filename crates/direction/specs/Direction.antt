@@ -10,7 +10,7 @@ use Rattle.seq.specs.Sums.{plusZero, at}
 use Rattle.draw.specs.declared.SplitMix64.{SplitMix64}
 use Rattle.draw.specs.Gaussian.{gaussianOf, afterGaussian}
 use Rattle.linear.specs.Vectors.{dotOf, normOf}
-use Rattle.linear.specs.Basis.{projected}
+use Rattle.basis.specs.Basis.{projected}
 use Rattle.seq.specs.Marks.{isSet}
 
 -- the generator after k draws

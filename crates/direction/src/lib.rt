@@ -1,65 +1,14 @@
 // A direction of the walk, and the step along it.
-use draw::SplitMix64;
 use ieee::clamp;
 use ieee::signum;
 use ieee::smaller;
-use linear::norm;
-use linear::project_out;
 ghost use mathlib.Core.Path.{_≡_};
 ghost use mathlib.Core.List.{_++_};
-ghost use Prim.Native.Nat.{_≤_, _*_, _+_};
+ghost use Prim.Native.Nat.{_*_, _+_};
 ghost use lib.ListN.{length, drop};
 ghost use Rattle.seq.specs.Lists.{part};
-ghost use Rattle.seq.specs.Sums.{plusZero};
-ghost use Rattle.linear.specs.Held.{vectorsIn};
-ghost use Rattle.direction.specs.Direction.{afterDraws, drawn, zeroed, directed, tooShort, turned};
+ghost use Rattle.direction.specs.Direction.{turned};
 ghost use Rattle.direction.specs.Step.{reachTo, moved, along};
-
-// Fills g with draws; the generator after them.
-pub fn draw_into(g: &mut [f64], rng: SplitMix64) -> SplitMix64
-    ensures { λ r. ⌜ (now (g .exit) ≡ drawn rng (length (now (g .entry)))) × (r ≡ afterDraws rng (length (now (g .entry)))) ⌝ }
-{
-    let mut r = rng;
-    let mut i = 0usize;
-    while i < g.len() {
-        let d = r.gaussian();
-        g[i] = d.value;
-        // Field by field: a load of the whole would wait until both fields had been written out.
-        r = SplitMix64 {
-            state: d.rng.state,
-            edition: d.rng.edition,
-        };
-        i += 1;
-    }
-    r
-}
-
-// 0.0 at each place of g that is not free.
-fn zero_frozen(g: &mut [f64], free: &[u32])
-    requires { ⌜ length (now free) ≡ length (now g) ⌝ }
-    ensures { λ _. ⌜ now (g .exit) ≡ zeroed (now (free .entry)) (now (g .entry)) ⌝ }
-{
-    let mut p = 0usize;
-    while p < g.len() {
-        if free[p] != 1 {
-            g[p] = 0.0;
-        }
-        p += 1;
-    }
-}
-
-// Projects the draws in g and zeroes them at the frozen places; whether too little is left.
-pub fn direct(basis: &[f64], count: usize, l: usize, free: &[u32], g: &mut [f64]) -> bool
-    requires { ⌜ (length (now g) ≡ l) × (length (now free) ≡ l) × (count * l ≤ length (now basis)) ⌝ }
-    ensures { λ r. ⌜ (now (g .exit) ≡ directed plusZero (vectorsIn l count (now (basis .entry))) (now (free .entry)) (now (g .entry)))
-        × (r ≡ tooShort plusZero (now (g .entry))
-        (directed plusZero (vectorsIn l count (now (basis .entry))) (now (free .entry)) (now (g .entry)))) ⌝ }
-{
-    let drawn_norm = norm(&g[..]);
-    project_out(basis, count, l, g);
-    zero_frozen(&mut g[..], free);
-    norm(&g[..]) <= 1e-9 * drawn_norm
-}
 
 // Each entry negated, if so asked.
 pub fn turn_if(v: &mut [f64], t: bool)

@@ -1,10 +1,10 @@
 // The public colouring of a lent matrix.
-use coloring::Counted;
+use colored::Counted;
+use colorfaults::Colored;
+use colorfaults::coloring_fault;
+use colorfaults::write_colours;
 use coloring::coloring;
 use draw::SplitMix64;
-use limits::all_bounded;
-use limits::scratch_short;
-use limits::too_large;
 use seq::clear;
 use seq::clear_words;
 use seq::count_up;
@@ -13,49 +13,13 @@ ghost use mathlib.Core.Path.{_≡_};
 ghost use mathlib.Core.Bool.{true};
 ghost use Prim.Native.Nat.{_≤_, _*_, _+_};
 ghost use lib.ListN.{length};
-ghost use Rattle.seq.specs.Lists.{tabulate};
 ghost use Rattle.seq.specs.Sums.{plusZero};
-ghost use Rattle.coloring.specs.Coloring.{coloringOf};
-ghost use Rattle.coloring.specs.Fresh.{ColoredAs};
+ghost use Rattle.colored.specs.Coloring.{coloringOf};
+ghost use Rattle.colored.specs.Fresh.{ColoredAs};
 ghost use Rattle.draw.specs.SplitMix.{seeded};
 ghost use Rattle.limits.specs.Limits.{bounded};
 ghost use Rattle.limits.specs.Reading.{readOf, Whole};
-ghost use Rattle.discrepancy.specs.Discrepancy.{mostEntry, coloringFault, colourAt, DiscrepancyColored};
-
-// The answer of a colouring: 0 or the number of a refusal, how many directions were drawn, and how many sweeps made.
-#[repr(C)]
-pub struct Colored {
-    pub number: u64,
-    pub directions: u64,
-    pub sweeps: u64,
-}
-
-// The lowest refusal number that applies, or 0.
-fn coloring_fault(
-    matrix: &[f64],
-    m: usize,
-    n: usize,
-    output: usize,
-    numbers: usize,
-    indices: usize,
-) -> u64
-    ensures { λ r. ⌜ r ≡ coloringFault (now (matrix .entry)) m n output numbers indices ⌝ }
-{
-    if too_large(m, n) {
-        return 3;
-    }
-    if matrix.len() != m * n || output != m {
-        return 4;
-    }
-    if scratch_short(m, n, numbers, indices) {
-        return 6;
-    }
-    if all_bounded(matrix, 4294967296.0) {
-        0
-    } else {
-        11
-    }
-}
+ghost use Rattle.colorfaults.specs.Discrepancy.{mostEntry, DiscrepancyColored};
 
 // Colours all m columns into x. The matrix is read as it is: every scale is 1.0.
 pub fn color_all(
@@ -89,18 +53,6 @@ pub fn color_all(
         &mut indices[..n],
         SplitMix64::new(seed, 1),
     )
-}
-
-// 1 for a colour above 0, and -1 for one below.
-pub fn write_colours(output: &mut [i8], x: &[f64])
-    requires { ⌜ length (now output) ≡ length (now x) ⌝ }
-    ensures { λ _. ⌜ now (output .exit) ≡ tabulate (colourAt (now (x .entry))) (length (now (x .entry))) ⌝ }
-{
-    let mut j = 0usize;
-    while j < output.len() {
-        output[j] = if x[j] > 0.0 { 1 } else { -1 };
-        j += 1;
-    }
 }
 
 // Colours the m columns of n rows, 1 or -1 each, so that every row's sum is small. A refusal changes nothing, and has zeros

@@ -1,3 +1,2 @@
 -- Laws of the entries, for every crate above.
 pub mod Reading
-pub mod Skipping

@@ -13,8 +13,8 @@ use Rattle.seq.proofs.Summing.{sum-more, sum-cong}
 use Rattle.ieee.specs.Magnitude.{absOf}
 use Rattle.limits.specs.Reading.{readOf}
 use Rattle.reading.proofs.Lent.{votes-square}
-use Rattle.entries.specs.Entries.{entryOf}
-use Rattle.entries.specs.Rows.{rowNorms}
+use Rattle.chosen.specs.Entries.{entryOf}
+use Rattle.chosen.specs.Rows.{rowNorms}
 
 module _ (matrix : List Float) (bits : List ℕ) (n : ℕ) (cols : List ℕ) (scale : List Float) (p i : ℕ) where
   pub entry-own : i < n → entryOf matrix bits n cols scale p i ≡ mul binary64 (readOf matrix bits n (getD cols p 0) i) (at scale p)

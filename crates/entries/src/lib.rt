@@ -1,10 +1,10 @@
 // How an entry is read: a column is chosen from the matrix and scaled; what it then does to a vector is in the crate reading.
+use chosen::entry;
+use chosen::next_live;
 use columns::add_squares;
-use ieee::is_finite;
 use linear::dot;
+use paired::add_two_of;
 use reading::add_column_of;
-use reading::add_two_of;
-use reading::entry_of;
 use seq::clear;
 use seq::fill;
 ghost use mathlib.Core.Path.{_≡_};
@@ -13,28 +13,10 @@ ghost use Prim.Native.Nat.{_<_};
 ghost use lib.ListN.{length};
 ghost use Rattle.seq.specs.Lists.{tabulate};
 ghost use Rattle.seq.specs.Sums.{plusZero, at};
-ghost use Rattle.entries.specs.Rows.{rowOf, rowNorms, times};
-ghost use Rattle.entries.specs.Entries.{entryOf};
-ghost use Rattle.entries.specs.ChosenColumns.{Chosen};
+ghost use Rattle.chosen.specs.Rows.{rowOf, rowNorms, times};
+ghost use Rattle.chosen.specs.Entries.{entryOf};
+ghost use Rattle.chosen.specs.ChosenColumns.{Chosen};
 ghost use Rattle.columns.specs.Kernels.{plusColumn, plusColumns};
-ghost use Rattle.entries.specs.PassedOver.{PassedOver};
-
-// The entry at row i of column p.
-fn entry(
-    matrix: &[f64],
-    bits: &[u8],
-    n: usize,
-    cols: &[u32],
-    scale: &[f64],
-    p: usize,
-    i: usize,
-) -> f64
-    requires { ⌜ Chosen (now matrix) (now bits) n (now cols) (now scale) n × (p < length (now cols)) ⌝ }
-    ensures { λ r. ⌜ r ≡ entryOf (now (matrix .entry)) (now (bits .entry)) n (now (cols .entry)) (now (scale .entry)) p i ⌝ }
-{
-    let c = cols[p] as usize;
-    entry_of(matrix, bits, n, c, scale[p], i)
-}
 
 // Row i, an entry for each column.
 pub fn row_into(
@@ -55,25 +37,6 @@ pub fn row_into(
         v[p] = entry(matrix, bits, n, cols, scale, p, i);
         p += 1;
     }
-}
-
-// The first place from `from` on whose column may add something, or where the places end. Where g is 0.0 and the scale is finite, the
-// column's entries are finite too, and it adds nothing.
-fn next_live(scale: &[f64], g: &[f64], from: usize) -> usize
-    requires { ⌜ length (now scale) ≡ length (now g) ⌝ }
-    ensures { λ r. ⌜ PassedOver (now (scale .entry)) (now (g .entry)) from r ⌝ }
-{
-    let mut p = from;
-    while p < g.len() {
-        if g[p] != 0.0 {
-            return p;
-        }
-        if !is_finite(scale[p]) {
-            return p;
-        }
-        p += 1;
-    }
-    p
 }
 
 // acc, which has the sums over the columns before p, plus column p.

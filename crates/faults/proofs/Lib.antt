@@ -1,4 +1,4 @@
 -- The laws of what a job is refused for.
 pub mod Refusing
-pub mod Whole
 pub mod AsDoubles
+pub mod Whole

@@ -2,7 +2,6 @@
 pub mod Values
 pub mod Widths
 pub mod Turns
-pub mod Written
 pub mod Puts
 pub mod Numerals
 pub mod BitsBack

@@ -1,6 +1,6 @@
 // Sheets from a bad cable: the good lines of a damaged sheet, read in pieces of any length and kept in lent buffers.
-use form::is_column;
 use head::head_of;
+use lines::is_column;
 ghost use mathlib.Core.Path.{_≡_};
 ghost use Prim.Native.Nat.{_+_, _≤_, _<_};
 ghost use mathlib.Core.List.{[], _∷_};

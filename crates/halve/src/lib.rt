@@ -1,5 +1,5 @@
 // One halving: the remaining rest is coloured, and its weights are doubled or zeroed.
-use coloring::Counted;
+use colored::Counted;
 use coloring::coloring;
 use doubling::double_or_zero;
 use doubling::remaining_into;
@@ -10,10 +10,10 @@ ghost use Prim.Native.Nat.{suc, _≤_};
 ghost use lib.ListN.{length};
 ghost use Rattle.seq.specs.Sums.{plusZero};
 ghost use Rattle.seq.specs.Indices.{Below};
-ghost use Rattle.coloring.specs.Coloring.{coloringOf};
+ghost use Rattle.colored.specs.Coloring.{coloringOf};
 ghost use Rattle.limits.specs.Reading.{readOf};
-ghost use Rattle.halve.specs.Halve.{scaledColumns, halvedBy, halvedOnce};
-ghost use Rattle.halve.specs.Handed.{halvesOf, Equipped, Ready, Countable};
+ghost use Rattle.halved.specs.Halve.{scaledColumns, halvedBy, halvedOnce};
+ghost use Rattle.halved.specs.Handed.{halvesOf, Equipped, Ready, Countable};
 
 // Colours some indices and halves their weights; the tally with the colouring added. scale, x and blocked are scratch.
 fn halve_some(

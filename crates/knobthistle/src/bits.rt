@@ -1,25 +1,26 @@
 // The calls on a matrix of votes, one bit a margin, as C sees them.
+use answers::Answer;
 use ballots::sparsify_bits;
 use ballots::sparsify_within_bits;
 use ballots::thin_bits;
-use batch::Answers;
 use batch::thin_all_bits;
-use discrepancy::Colored;
+use colorfaults::Colored;
 use faults::named_rule;
+use interface::cap_of;
+use items::Answers;
 use polls::discrepancy_coloring_bits;
 use polls::max_margin_change_bits;
 use polls::turned_words_bits;
-use sparsification::Answer;
 use sparsification::Job;
 ghost use mathlib.Core.Path.{_≡_};
 ghost use Rattle.draw.specs.SplitMix.{seeded};
 ghost use Rattle.faults.specs.Faults.{ruleNamed};
 ghost use Rattle.rules.specs.declared.Rule.the-variants.{Target, Within};
-ghost use Rattle.ballots.specs.Ballots.{BitsThinned};
-ghost use Rattle.batch.specs.Items.{listed};
-ghost use Rattle.batch.specs.All.{BitsThinnedAll};
-ghost use Rattle.polls.specs.Polls.{BitsColored, bitsChange, bitsTurned};
-ghost use Rattle.knobthistle.specs.Caps.{capOf};
+ghost use Rattle.bitfaults.specs.Ballots.{BitsThinned};
+ghost use Rattle.items.specs.Items.{listed};
+ghost use Rattle.items.specs.All.{BitsThinnedAll};
+ghost use Rattle.pollfaults.specs.Polls.{BitsColored, bitsChange, bitsTurned};
+ghost use Rattle.interface.specs.Caps.{capOf};
 
 // The largest change of a margin, written to `change`; the number.
 #[no_mangle]
@@ -136,7 +137,7 @@ pub extern "C" fn knob_sparsify_within_bits(
         seed,
         edition,
         allowance,
-        crate::cap_of(capped, cap),
+        cap_of(capped, cap),
         output,
         numbers,
         indices,

@@ -1,21 +1,23 @@
 // The C interface: nothing but exported calls. include/knobthistle.h declares them.
 mod bits;
 
-use batch::Answers;
+use answers::Answer;
 use batch::thin_all;
-use discrepancy::Colored;
+use colorfaults::Colored;
 use discrepancy::discrepancy_coloring;
-use draw::SplitMix64;
 use faults::named_rule;
+use interface::cap_of;
+use interface::next_gaussian;
+use interface::next_uniform;
+use interface::version;
+use items::Answers;
 use margins::max_margin_change;
 use margins::turned_words;
 use moving::moved;
 use moving::moved_again;
 use readback::read_sheet;
-use rules::Cap;
 use salvaging::salvage;
 use sheet::thin_sheet;
-use sparsification::Answer;
 use sparsification::Job;
 use sparsification::sparsify;
 use sparsification::sparsify_within;
@@ -27,22 +29,22 @@ ghost use Rattle.root.specs.Root.{sqrtOf};
 ghost use Rattle.draw.specs.SplitMix.{seeded, afterOf};
 ghost use Rattle.draw.specs.Uniform.{uniformIn};
 ghost use Rattle.draw.specs.Gaussian.{lnOfDraw, cosOfDraw, gaussianOf, afterGaussian};
-ghost use Rattle.discrepancy.specs.Discrepancy.{DiscrepancyColored};
-ghost use Rattle.knobthistle.specs.Version.{versionNumber};
-ghost use Rattle.knobthistle.specs.Caps.{capOf};
-ghost use Rattle.sparsification.specs.Answers.{Thinned};
-ghost use Rattle.batch.specs.Items.{listed};
-ghost use Rattle.batch.specs.All.{ThinnedAll};
+ghost use Rattle.colorfaults.specs.Discrepancy.{DiscrepancyColored};
+ghost use Rattle.interface.specs.Version.{versionNumber};
+ghost use Rattle.interface.specs.Caps.{capOf};
+ghost use Rattle.answers.specs.Answers.{Thinned};
+ghost use Rattle.items.specs.Items.{listed};
+ghost use Rattle.items.specs.All.{ThinnedAll};
 ghost use Rattle.faults.specs.Faults.{ruleNamed};
-ghost use Rattle.voting.specs.Votes.{VotesThinned};
+ghost use Rattle.votefaults.specs.Votes.{VotesThinned};
 ghost use Rattle.rules.specs.declared.Rule.the-variants.{Target, Within};
 ghost use Rattle.margins.specs.Answers.{changeAnswer, turnedAnswer};
 ghost use Rattle.sheet.specs.Answer.{Answered};
 ghost use Rattle.gathering.specs.Lines.{noLines, after};
-ghost use Rattle.salvaging.specs.Saved.{salvaged, Laid};
+ghost use Rattle.keeping.specs.Saved.{salvaged, Laid};
 ghost use Rattle.writing.specs.Writing.{WroteFor};
 ghost use Rattle.readback.specs.ReadingBack.{ReadBack};
-ghost use Rattle.moving.specs.Answers.{Listed};
+ghost use Rattle.movefaults.specs.Answers.{Listed};
 ghost use Rattle.words.specs.Words.{movedAnswer};
 
 // The version of the library: that of the file VERSION.
@@ -50,17 +52,7 @@ ghost use Rattle.words.specs.Words.{movedAnswer};
 pub extern "C" fn knob_version() -> u64
     ensures { λ r. ⌜ r ≡ versionNumber 0 1 0 ⌝ }
 {
-    1000
-}
-
-// The next uniform draw by an edition; the state moves on.
-fn next_uniform(state: &mut u64, edition: u32) -> f64
-    ensures { λ r. ⌜ (r ≡ uniformIn (seeded (now (state .entry)) edition))
-        × (now (state .exit) ≡ afterOf (seeded (now (state .entry)) edition) .state) ⌝ }
-{
-    let u = SplitMix64::new(*state, edition).uniform();
-    *state = u.rng.state;
-    u.value
+    version()
 }
 
 // The next uniform draw of edition 1.
@@ -79,16 +71,6 @@ pub extern "C" fn knob_uniform_2(state: &mut u64) -> f64
         × (now (state .exit) ≡ afterOf (seeded (now (state .entry)) 2) .state) ⌝ }
 {
     next_uniform(state, 2)
-}
-
-// The next Gaussian draw by an edition; the state moves on.
-fn next_gaussian(state: &mut u64, edition: u32) -> f64
-    ensures { λ r. ⌜ (r ≡ gaussianOf (seeded (now (state .entry)) edition))
-        × (now (state .exit) ≡ afterGaussian (seeded (now (state .entry)) edition) .state) ⌝ }
-{
-    let d = SplitMix64::new(*state, edition).gaussian();
-    *state = d.rng.state;
-    d.value
 }
 
 // The next Gaussian draw of edition 1.
@@ -234,17 +216,6 @@ pub extern "C" fn knob_sparsify(
         numbers,
         indices,
     )
-}
-
-// The cap that a host names: none where `capped` is 0.
-fn cap_of(capped: u32, cap: usize) -> Cap
-    ensures { λ r. ⌜ r ≡ capOf capped cap ⌝ }
-{
-    if capped == 0 {
-        Cap::Absent
-    } else {
-        Cap::AtMost(cap)
-    }
 }
 
 // Thins within an allowance, and as far as the cap asks.

@@ -13,7 +13,7 @@ use Rattle.seq.specs.Sums.{plusZero, at}
 use Rattle.seq.specs.Keep.{count}
 use Rattle.ieee.specs.Flat.{Alike}
 use Rattle.ieee.proofs.Alikes.{alike-refl, lt-alike}
-use Rattle.margins.specs.Margins.{marginAt, turns, turnsAt, turnedCount}
+use Rattle.turned.specs.Turned.{marginAt, turns, turnsAt, turnedCount}
 
 -- a margin that was above 0 is below 0
 abbrev pub fell : Float → Float → Bool

@@ -13,9 +13,10 @@ use Rattle.seq.specs.Sums.{plusZero}
 use Rattle.limits.specs.Limits.{tooLarge, allFinite}
 use Rattle.limits.proofs.Sizes.{small}
 use Rattle.limits.specs.Matrix.{columnsOf}
-use Rattle.margins.specs.Margins.{maxChange, turnedCount}
+use Rattle.change.specs.Margins.{maxChange}
+use Rattle.turned.specs.Turned.{turnedCount}
 use Rattle.margins.specs.Answers.{marginFault, changeAnswer, thresholdFault, turnedAnswer}
-use Rattle.margins.specs.Blocks.{Compared}
+use Rattle.rows.specs.Compared.{Compared}
 use Rattle.margins.specs.declared.Change.{Change}
 use Rattle.margins.specs.declared.Turned.{Turned}
 

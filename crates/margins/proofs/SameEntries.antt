@@ -7,8 +7,9 @@ use lib.Ieee.{Float, binary64, mul}
 use Rattle.seq.specs.Sums.{plusZero, at}
 use Rattle.seq.proofs.Summing.{sum-cong}
 use Rattle.ieee.specs.Magnitude.{maxAbsTo}
-use Rattle.margins.specs.Margins.{changeTo, maxChange, marginAt, turnsAt, turnedCount}
-use Rattle.margins.proofs.Stretches.{count-cong}
+use Rattle.change.specs.Margins.{changeTo, maxChange}
+use Rattle.turned.specs.Turned.{marginAt, turnsAt, turnedCount}
+use Rattle.turned.proofs.Counting.{count-cong}
 
 -- the largest of the same magnitudes
 largest-cong : (v w : ℕ → Float) (k : ℕ) → ((i : ℕ) → i < k → v i ≡ w i) → maxAbsTo v k ≡ maxAbsTo w k

@@ -6,7 +6,7 @@ use lib.Ieee.{Float, binary64, ofBits, isNan, lt, ne, sub, mul}
 use Rattle.seq.specs.Sums.{plusZero}
 use Rattle.ieee.specs.Magnitude.{largerOf, maxAbsTo}
 use Rattle.limits.specs.Matrix.{columnsOf}
-use Rattle.margins.specs.Margins.{changeTo, maxChange}
+use Rattle.change.specs.Margins.{changeTo, maxChange}
 use Rattle.margins.specs.Answers.{marginFault, changeAnswer}
 
 abbrev one : Float

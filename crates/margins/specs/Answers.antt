@@ -9,7 +9,8 @@ use Rattle.seq.specs.Choice.{pick, orElse}
 use Rattle.seq.specs.Sums.{plusZero}
 use Rattle.limits.specs.Limits.{tooLarge, allFinite}
 use Rattle.limits.specs.Matrix.{columnsOf}
-use Rattle.margins.specs.Margins.{maxChange, turnedCount}
+use Rattle.change.specs.Margins.{maxChange}
+use Rattle.turned.specs.Turned.{turnedCount}
 use Rattle.margins.specs.declared.Change.{Change}
 use Rattle.margins.specs.declared.Turned.{Turned}
 

@@ -23,7 +23,7 @@ use Rattle.ieee.proofs.Products.{mul-at-most, mul-finite}
 use Rattle.ieee.proofs.Division.{unit-is, unit-mag, unit-number}
 use Rattle.limits.proofs.Bounded.{finite-within}
 use Rattle.ieee.specs.Constants.{one}
-use Rattle.margins.specs.Margins.{changeTo}
+use Rattle.change.specs.Margins.{changeTo}
 
 -- a finite value of at most k in magnitude
 pub record UpTo (f : Format) (k : ℕ) (x : Float) : Type 0 where

@@ -18,15 +18,15 @@ use Rattle.seq.proofs.Filling.{length-tab, getD-tab}
 use Rattle.ieee.specs.Magnitude.{aboveOf}
 use Rattle.ieee.proofs.Signs.{nought-is, nought-finite}
 use Rattle.ieee.proofs.ByMagnitude.{height, above-is}
-use Rattle.margins.specs.Margins.{changeTo}
+use Rattle.change.specs.Margins.{changeTo}
 use Rattle.ranking.specs.Ranking.{heavier}
 use Rattle.arranged.specs.Arranged.{EachOnce, InOrder, upTo}
-use Rattle.sorting.specs.Moved.{movedRows}
+use Rattle.marking.specs.Moved.{movedRows}
 use Rattle.sorting.proofs.Answers.{only-moved}
 use Rattle.arranged.proofs.Heights.{heavier-order}
 use Rattle.arranged.proofs.Ordered.{itself, order-start, order-more, order-all}
-use Rattle.moving.specs.Changes.{changesOf}
-use Rattle.moving.specs.Answers.{lentChanges, Listed}
+use Rattle.movefaults.specs.Changes.{changesOf}
+use Rattle.movefaults.specs.Answers.{lentChanges, Listed}
 use Rattle.moving.proofs.Promises.{listed-index, as-many-rows}
 
 zero-fits : T (fits binary64 plusZero)

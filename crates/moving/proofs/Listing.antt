@@ -9,11 +9,11 @@ use lib.ListN.{length, take, replicate, length-replicate}
 use lib.Seq.{length-take-le}
 use lib.Ieee.{Float}
 use Rattle.seq.specs.Lists.{tabulate}
-use Rattle.margins.specs.Margins.{changeTo}
-use Rattle.sorting.specs.Moved.{Moved}
-use Rattle.moving.specs.Changes.{changesOf, Taken}
-use Rattle.moving.specs.Answers.{movedFault, lentChanges, Listed}
-use Rattle.moving.proofs.Refusals.{passed}
+use Rattle.change.specs.Margins.{changeTo}
+use Rattle.marking.specs.Moved.{Moved}
+use Rattle.movefaults.specs.Changes.{changesOf, Taken}
+use Rattle.movefaults.specs.Answers.{movedFault, lentChanges, Listed}
+use Rattle.movefaults.proofs.Refusals.{passed}
 
 -- the changes from row 0 on
 pub filled : (matrix : ℕ → ℕ → Float) (m n : ℕ) (before after v : List Float) (k : ℕ) → v ≡ tabulate

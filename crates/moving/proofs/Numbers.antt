@@ -15,10 +15,10 @@ use Rattle.ieee.proofs.Ops.{finite-number}
 use Rattle.limits.specs.Matrix.{columnsOf}
 use Rattle.limits.proofs.Bounded.{bounded-at}
 use Rattle.ieee.specs.Constants.{one}
-use Rattle.margins.specs.Margins.{changeTo}
-use Rattle.sorting.specs.Moved.{Numbers}
-use Rattle.moving.specs.Changes.{changesOf, Taken}
-use Rattle.moving.specs.Answers.{lentChanges}
+use Rattle.change.specs.Margins.{changeTo}
+use Rattle.marking.specs.Moved.{Numbers}
+use Rattle.movefaults.specs.Changes.{changesOf, Taken}
+use Rattle.movefaults.specs.Answers.{lentChanges}
 use Rattle.moving.proofs.Bounds.{UpTo, one-up, change-up}
 
 module _ (matrix : ℕ → ℕ → Float) (m n : ℕ) (before after : List Float) where

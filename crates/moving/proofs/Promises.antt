@@ -14,15 +14,15 @@ use Rattle.seq.proofs.Filling.{getD-tab}
 use Rattle.ieee.specs.Magnitude.{absOf, largestTo, maxAbsTo}
 use Rattle.ieee.proofs.Signs.{nought-is}
 use Rattle.limits.specs.Matrix.{columnsOf}
-use Rattle.margins.specs.Margins.{changeTo, maxChange}
+use Rattle.change.specs.Margins.{changeTo, maxChange}
 use Rattle.ranking.specs.Ranking.{heavier}
 use Rattle.arranged.specs.Arranged.{EachOnce, InOrder}
-use Rattle.sorting.specs.Moved.{movedRows, changesAt}
+use Rattle.marking.specs.Moved.{movedRows, changesAt}
 use Rattle.sorting.proofs.Answers.{moved-once, moved-order, length-moved}
 use Rattle.sorting.proofs.First.{first-is-largest}
-use Rattle.moving.specs.Answers.{lentChanges, Listed}
+use Rattle.movefaults.specs.Answers.{lentChanges, Listed}
 use Rattle.moving.proofs.Numbers.{length-changes, changes-at, changes-numbers, changes-fit}
-use Rattle.moving.proofs.Refusals.{passed}
+use Rattle.movefaults.proofs.Refusals.{passed}
 
 -- ---- no second answer fits
 module _ (matrix : List Float) (m n : ℕ) (before after : List Float) where

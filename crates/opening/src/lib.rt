@@ -1,8 +1,8 @@
 // The first line of a sheet, written piece by piece, each where the one before it ends.
-use fields::put_bits;
-use fields::put_count;
-use fields::put_tabbed;
-use fields::put_word;
+use putting::put_bits;
+use putting::put_count;
+use putting::put_tabbed;
+use putting::put_word;
 ghost use mathlib.Core.List.{_++_};
 ghost use Prim.Native.Nat.{_+_, _≤_};
 ghost use lib.ListN.{length};

@@ -7,18 +7,18 @@ use places::put_back;
 use places::put_back_words;
 use places::round_free;
 use seq::fill_words;
-use walk::Phased;
 use walk::phase;
+use walked::Phased;
 ghost use mathlib.Core.Path.{_≡_};
 ghost use Prim.Native.Nat.{ℕ, _≤_, _+_};
 ghost use lib.ListN.{length};
 ghost use Rattle.seq.specs.Sums.{plusZero};
 ghost use Rattle.seq.specs.Indices.{Below};
-ghost use Rattle.entries.specs.Entries.{entryOf};
-ghost use Rattle.entries.specs.ChosenColumns.{Chosen};
-ghost use Rattle.freeze.specs.Held.{Roomy};
-ghost use Rattle.phasing.specs.Phase.{phased};
-ghost use Rattle.phasing.specs.Phasing.{between, PhasedAt};
+ghost use Rattle.chosen.specs.Entries.{entryOf};
+ghost use Rattle.chosen.specs.ChosenColumns.{Chosen};
+ghost use Rattle.blocking.specs.Held.{Roomy};
+ghost use Rattle.phased.specs.Phase.{phased};
+ghost use Rattle.phased.specs.Phasing.{between, PhasedAt};
 
 // A phase on the columns at some places. The last five slices are room: for what is chosen there, and for a direction.
 fn phase_on(

@@ -1,46 +1,20 @@
 // Colouring, change and turned words from a matrix of votes, one bit a margin: the bits are read where they stand, and every answer is that
 // from the doubles that they stand for.
-use discrepancy::Colored;
+use change::change_of;
+use colorfaults::Colored;
+use colorfaults::write_colours;
 use discrepancy::color_all;
-use discrepancy::write_colours;
-use limits::all_finite;
-use limits::scratch_short;
-use limits::spare_clear;
-use limits::too_large;
 use margins::Change;
 use margins::Turned;
-use margins::change_of;
-use margins::turned_of;
+use pollfaults::bits_coloring_fault;
+use pollfaults::bits_turned_fault;
+use pollfaults::poll_fault;
 use seq::clear;
 use seq::clear_words;
+use spare::spare_clear;
+use turned::turned_of;
 ghost use mathlib.Core.Path.{_≡_};
-ghost use Rattle.polls.specs.Polls.{bitsColoringFault, BitsColored, pollFault, bitsChange, bitsTurnedFault, bitsTurned};
-
-// What a colouring is refused for, or 0.
-fn bits_coloring_fault(
-    bits: &[u8],
-    m: usize,
-    n: usize,
-    output: usize,
-    numbers: usize,
-    indices: usize,
-) -> u64
-    ensures { λ r. ⌜ r ≡ bitsColoringFault (now (bits .entry)) m n output numbers indices ⌝ }
-{
-    if too_large(m, n) {
-        return 3;
-    }
-    if bits.len() != m * ((n + 7) / 8) {
-        return 4;
-    }
-    if output != m {
-        return 4;
-    }
-    if scratch_short(m, n, numbers, indices) {
-        return 6;
-    }
-    if spare_clear(bits, m, n) { 0 } else { 15 }
-}
+ghost use Rattle.pollfaults.specs.Polls.{BitsColored, bitsChange, bitsTurned};
 
 // Colours the m columns of n votes, 1 or -1 each, so that every row's sum is small. A refusal changes nothing, and has zeros beside its
 // number.
@@ -86,22 +60,6 @@ pub fn discrepancy_coloring_bits(
     }
 }
 
-// 3 or 4, or 0.
-fn poll_fault(bits: &[u8], m: usize, n: usize, before: &[f64], after: &[f64]) -> u64
-    ensures { λ r. ⌜ r ≡ pollFault (now (bits .entry)) m n (now (before .entry)) (now (after .entry)) ⌝ }
-{
-    if too_large(m, n) {
-        return 3;
-    }
-    if bits.len() != m * ((n + 7) / 8) {
-        return 4;
-    }
-    if before.len() != m {
-        return 4;
-    }
-    if after.len() != m { 4 } else { 0 }
-}
-
 // The largest change of any margin when the weights `before` are replaced by `after`, from bits.
 pub fn max_margin_change_bits(
     bits: &[u8],
@@ -130,30 +88,6 @@ pub fn max_margin_change_bits(
         number,
         change: change_of(&none[..], bits, n, before, after),
     }
-}
-
-// What a count of turned words is refused for, or 0.
-fn bits_turned_fault(
-    bits: &[u8],
-    m: usize,
-    n: usize,
-    before: &[f64],
-    after: &[f64],
-    thresholds: &[f64],
-) -> u64
-    ensures { λ r. ⌜ r ≡ bitsTurnedFault (now (bits .entry)) m n (now (before .entry)) (now (after .entry)) (now (thresholds .entry)) ⌝ }
-{
-    let number = poll_fault(bits, m, n, before, after);
-    if number != 0 {
-        return number;
-    }
-    if thresholds.len() != n {
-        return 4;
-    }
-    if !spare_clear(bits, m, n) {
-        return 15;
-    }
-    if all_finite(thresholds) { 0 } else { 8 }
 }
 
 // The number of words whose margin is above its threshold before and not after, or the reverse, from bits.

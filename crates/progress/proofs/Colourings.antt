@@ -20,14 +20,14 @@ use Rattle.ieee.specs.Magnitude.{absOf}
 use Rattle.ieee.proofs.Ops.{Finite}
 use Rattle.ieee.proofs.Signs.{nought-finite}
 use Rattle.seq.specs.Marks.{isSet}
-use Rattle.freeze.specs.Freeze.{freezeLimit, Walk}
+use Rattle.blocking.specs.Freeze.{freezeLimit, Walk}
 use Rattle.begin.specs.Begin.{begun}
-use Rattle.walk.specs.Walk.{stepOf, courseOf, phaseOf, freeOnes}
+use Rattle.walked.specs.Walk.{stepOf, courseOf, phaseOf, freeOnes}
 use Rattle.places.specs.Places.{chosen, putBack}
 use Rattle.places.proofs.Places.{off, getD-any, back-at, back-other, length-putBack, count-before}
-use Rattle.phasing.specs.Phase.{Between, roundedOff, phased}
-use Rattle.coloring.specs.Coloring.{settled}
-use Rattle.coloring.proofs.Marked.{picked, ones}
+use Rattle.phased.specs.Phase.{Between, roundedOff, phased}
+use Rattle.colored.specs.Coloring.{settled}
+use Rattle.colored.proofs.Marked.{picked, ones}
 use Rattle.seq.proofs.Marks.{unset-out}
 use Rattle.progress.specs.Original.{Generator, stepOn, phaseOn, before, columnsAt, entriesAt, beginsAt, walkAt}
 use Rattle.progress.proofs.Standing.{Fair, Standing, begun-stands}

@@ -30,10 +30,10 @@ use Rattle.weights.specs.Weights.{isOn, nonzeros}
 use Rattle.ranking.specs.Ranking.{restOf, omegaOf}
 use Rattle.doubling.specs.Doubling.{remaining}
 use Rattle.doubling.proofs.Turns.{those-short}
-use Rattle.halve.specs.Halve.{Halved}
-use Rattle.halving.proofs.Rest.{length-rest, rest-on}
-use Rattle.halving.proofs.Fates.{length-once}
-use Rattle.discrepancy.specs.Discrepancy.{mostEntry, coloringFault}
+use Rattle.halved.specs.Halve.{Halved}
+use Rattle.passed.proofs.Rest.{length-rest, rest-on}
+use Rattle.passed.proofs.Fates.{length-once}
+use Rattle.colorfaults.specs.Discrepancy.{mostEntry, coloringFault}
 use Rattle.bounded.proofs.Within.{Within}
 use Rattle.draw.specs.SplitMix.{seeded}
 use Rattle.progress.specs.Original.{Generator, before, columnsAt, entriesAt, GetsSomewhere}

@@ -26,11 +26,11 @@ use Rattle.ieee.proofs.Signs.{nought-finite}
 use Rattle.ieee.proofs.Sums.{abs-size, abs-mag}
 use Rattle.ieee.proofs.Division.{unit-finite}
 use Rattle.seq.specs.Keep.{allTo}
-use Rattle.entries.specs.Rows.{rowOf}
+use Rattle.chosen.specs.Rows.{rowOf}
 use Rattle.seq.specs.Marks.{isSet}
-use Rattle.phasing.specs.Phase.{Between}
+use Rattle.phased.specs.Phase.{Between}
 use Rattle.ieee.specs.Constants.{one}
-use Rattle.freeze.specs.Freeze.{axis}
+use Rattle.blocking.specs.Freeze.{axis}
 use Rattle.bounded.proofs.Within.{Within, no-units}
 use Rattle.bounded.proofs.Taken.{Spot, Blank}
 use Rattle.bounded.proofs.Bases.{Row, Basis, inserted-keeps}

@@ -30,9 +30,9 @@ use Rattle.weights.specs.Weights.{isOn}
 use Rattle.ranking.specs.Ranking.{support, heavier, ranked, keptCount, restOf, omegaOf}
 use Rattle.doubling.specs.Doubling.{remaining, scaleAt}
 use Rattle.doubling.proofs.Once.{Every, none, both, every-at, every-put, every-map, every-those}
-use Rattle.halve.specs.Halve.{Halved, halvedOnce, scaledColumns}
-use Rattle.halving.proofs.Rest.{rest-on, rest-distinct}
-use Rattle.halving.proofs.Fates.{Among, Moved, stays, doubled, zeroed, moved-once}
+use Rattle.halved.specs.Halve.{Halved, halvedOnce, scaledColumns}
+use Rattle.passed.proofs.Rest.{rest-on, rest-distinct}
+use Rattle.passed.proofs.Fates.{Among, Moved, stays, doubled, zeroed, moved-once}
 use Rattle.bounded.proofs.Within.{Within, K}
 use Rattle.progress.specs.Original.{Generator}
 use Rattle.progress.proofs.Fairness.{Bounded}

@@ -7,10 +7,10 @@ use lib.Ieee.{Float}
 use Rattle.seq.specs.Choice.{pick}
 use Rattle.seq.specs.Sums.{plusZero}
 use Rattle.seq.specs.Until.{run}
-use Rattle.freeze.specs.Freeze.{Walk}
-use Rattle.walk.specs.Walk.{Stepped, Course, further, ended, left, freeOnes, courseFrom, phaseOf}
-use Rattle.walk.proofs.Ending.{fuel}
-use Rattle.walk.proofs.Counts.{run-keeps}
+use Rattle.blocking.specs.Freeze.{Walk}
+use Rattle.walked.specs.Walk.{Stepped, Course, further, ended, left, freeOnes, courseFrom, phaseOf}
+use Rattle.walked.proofs.Ending.{fuel}
+use Rattle.walked.proofs.Counts.{run-keeps}
 use Rattle.progress.specs.Original.{furtherOn, phaseOn}
 use Rattle.progress.proofs.Standing.{Fair, Standing}
 use Rattle.progress.proofs.Steps.{step-on, step-stands}

@@ -20,11 +20,11 @@ use Rattle.seq.proofs.Sorting.{sorted-all, take-all-of}
 use Rattle.ieee.specs.Magnitude.{absOf, signumOf}
 use Rattle.ieee.proofs.Ops.{Finite}
 use Rattle.places.proofs.Places.{getD-out}
-use Rattle.linear.specs.Basis.{inserted}
+use Rattle.basis.specs.Basis.{inserted}
 use Rattle.order.specs.Order.{worstTo, comesFirst}
 use Rattle.seq.specs.Marks.{isSet}
-use Rattle.entries.specs.Rows.{rowOf, rowNorms, firstRows}
-use Rattle.freeze.specs.Freeze.{freezeLimit, Walk, axis, freezes, blocking, frozenAt, freezeTo}
+use Rattle.chosen.specs.Rows.{rowOf, rowNorms, firstRows}
+use Rattle.blocking.specs.Freeze.{freezeLimit, Walk, axis, freezes, blocking, frozenAt, freezeTo}
 use Rattle.direction.specs.Direction.{drawn, directed}
 use Rattle.begin.specs.Begin.{blockTo, begun}
 use Rattle.reaching.proofs.Freezing.{Fractional, stays-inside}

@@ -20,12 +20,12 @@ use Rattle.seq.proofs.Filling.{length-tab, getD-tab}
 use Rattle.ieee.specs.Magnitude.{absOf, signumOf, clampOf}
 use Rattle.ieee.proofs.Ops.{Finite}
 use Rattle.seq.specs.Marks.{isSet}
-use Rattle.entries.specs.Rows.{times}
+use Rattle.chosen.specs.Rows.{times}
 use Rattle.ieee.specs.Constants.{one, minusOne}
-use Rattle.freeze.specs.Freeze.{freezeLimit, Walk, freezes, frozenAt, freezeTo}
+use Rattle.blocking.specs.Freeze.{freezeLimit, Walk, freezes, frozenAt, freezeTo}
 use Rattle.direction.specs.Direction.{drawn, directed, tooShort, uphill, turnedAt, turned}
 use Rattle.direction.specs.Step.{reachTo, movedAt, moved}
-use Rattle.walk.specs.Walk.{Stepped, drew, advanced, steppedAlong, stepOf}
+use Rattle.walked.specs.Walk.{Stepped, drew, advanced, steppedAlong, stepOf}
 use Rattle.reaching.proofs.Freezing.{least, gets-somewhere, stays-finite}
 use Rattle.reaching.proofs.Divide.{negated}
 use Rattle.progress.specs.Original.{reachFrom, goesOn, stepOn}

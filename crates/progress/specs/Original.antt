@@ -14,13 +14,13 @@ use Rattle.seq.specs.Until.{run}
 use Rattle.seq.specs.Marks.{isSet}
 use Rattle.direction.specs.Direction.{drawn, directed, tooShort, uphill, turned}
 use Rattle.direction.specs.Step.{reachTo}
-use Rattle.entries.specs.Rows.{times}
-use Rattle.freeze.specs.Freeze.{Walk}
+use Rattle.chosen.specs.Rows.{times}
+use Rattle.blocking.specs.Freeze.{Walk}
 use Rattle.begin.specs.Begin.{begun}
-use Rattle.walk.specs.Walk.{Stepped, stepOf, Course, further, ended, phaseOf}
+use Rattle.walked.specs.Walk.{Stepped, stepOf, Course, further, ended, phaseOf}
 use Rattle.places.specs.Places.{chosen}
-use Rattle.phasing.specs.Phase.{Between, phased}
-use Rattle.coloring.specs.Coloring.{settled}
+use Rattle.phased.specs.Phase.{Between, phased}
+use Rattle.colored.specs.Coloring.{settled}
 use Rattle.draw.specs.declared.SplitMix64.{SplitMix64}
 
 -- what the walk draws from

@@ -5,7 +5,7 @@ use lib.Ieee.{Float}
 use Rattle.seq.specs.Sums.{plusZero}
 use Rattle.ranking.specs.Ranking.{restOf, omegaOf}
 use Rattle.doubling.specs.Doubling.{remaining}
-use Rattle.halve.specs.Halve.{Halved, halvedOnce, scaledColumns}
+use Rattle.halved.specs.Halve.{Halved, halvedOnce, scaledColumns}
 use Rattle.progress.specs.Original.{GetsSomewhere}
 use Rattle.progress.specs.Clear.{Clear}
 

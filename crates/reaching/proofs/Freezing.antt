@@ -21,7 +21,7 @@ use Rattle.ieee.proofs.Products.{mul-units}
 use Rattle.ieee.proofs.SignedSums.{add-rounded}
 use Rattle.seq.specs.Marks.{isSet}
 use Rattle.ieee.specs.Constants.{one, minusOne}
-use Rattle.freeze.specs.Freeze.{freezeLimit}
+use Rattle.blocking.specs.Freeze.{freezeLimit}
 use Rattle.direction.specs.Step.{reachAt, reachTo, movedAt}
 use Rattle.reaching.specs.Reaching.{Free, ledTo}
 use Rattle.reaching.proofs.Reach.{reaches}

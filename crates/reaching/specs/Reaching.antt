@@ -5,7 +5,7 @@ use lib.Ieee.{Float, binary64, add, sub, mul, div, fits, lt, le, eq}
 use lib.Ieee.Scale.{finite}
 use Rattle.seq.specs.Sums.{plusZero}
 use Rattle.ieee.specs.Magnitude.{absOf, signumOf}
-use Rattle.freeze.specs.Freeze.{freezeLimit}
+use Rattle.blocking.specs.Freeze.{freezeLimit}
 
 -- how far x can go along g before it is 1 or -1
 abbrev pub reachOf : Float → Float → Float

@@ -1,9 +1,9 @@
 // The reader of sheets as bits: doubles come out as their bits, so that every NaN keeps its pattern.
-use form::entry_bits;
-use form::weight_bits;
-use form::wrong_line;
+use contents::entry_bits;
+use contents::weight_bits;
 use head::Head;
 use head::head_of;
+use lines::wrong_line;
 use rules::Cap;
 use rules::Rule;
 ghost use mathlib.Core.Path.{_≡_};

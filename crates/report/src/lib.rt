@@ -1,5 +1,5 @@
 // What the programs print: text, the bits of a double, weights, an answer and its path.
-use sparsification::Answer;
+use answers::Answer;
 
 // A text.
 pub fn put(text: &[u8]) {

@@ -3,7 +3,6 @@ pub mod RootFloor
 pub mod RootRounding
 pub mod RootPattern
 pub mod RootDigits
-pub mod RootGuess
 pub mod RootCases
 pub mod RootResults
 pub mod RootNearest

@@ -8,7 +8,7 @@ use Rattle.seq.specs.Lists.{repeated}
 use Rattle.gathering.specs.Lines.{noLines, after}
 use Rattle.gathering.specs.Steps.{Held, Took, startState}
 use Rattle.gathering.specs.declared.State.{State}
-use Rattle.salvaging.proofs.Answers.{holding-start}
+use Rattle.keeping.proofs.Answers.{holding-start}
 
 -- after so many pieces of at most 65536 bytes, with the lengths as they were
 pub record Reading (room₀ marks₀ room marks : List ℕ) (s : State) (piece : List ℕ) (turns : ℕ) : Type 0 where

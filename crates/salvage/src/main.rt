@@ -3,8 +3,8 @@
 use gathering::State;
 use gathering::feed;
 use gathering::start;
-use salvaging::judged_of;
-use salvaging::put_front;
+use keeping::judged_of;
+use keeping::put_front;
 use salvaging::put_losses;
 ghost use Prim.Native.Nat.{_+_, _≤_, _<_};
 ghost use lib.ListN.{length};

@@ -1,23 +1,21 @@
 // What is saved of a damaged sheet: the good sheet and the numbers of the lines that are lost, written from what is held of it.
-use fields::copy_bytes;
-use fields::count_at;
-use fields::put_count;
-use fields::put_note;
-use fields::put_word;
 use fields::width_of;
 use gathering::State;
 use gathering::feed;
 use gathering::start;
+use keeping::judged_of;
+use keeping::put_front;
+use putting::copy_bytes;
+use putting::put_note;
 ghost use mathlib.Core.Path.{_≡_};
 ghost use Prim.Native.Nat.{_+_, _≤_, _<_};
 ghost use lib.Dec.{leb};
 ghost use lib.ListN.{length};
-ghost use Rattle.fields.specs.Fields.{countAt};
 ghost use Rattle.fields.specs.Steps.{WroteOn};
 ghost use Rattle.gathering.specs.Lines.{noLines, after};
 ghost use Rattle.gathering.specs.Steps.{Held};
-ghost use Rattle.salvaging.specs.Saved.{lostLine, lostText, corrected, salvaged, Laid};
-ghost use Rattle.salvaging.specs.Steps.{keptIn, Opened, frontIn, judgedIn, heldText};
+ghost use Rattle.keeping.specs.Saved.{lostLine, lostText, salvaged, Laid};
+ghost use Rattle.keeping.specs.Steps.{keptIn, heldText};
 
 // Whether line j is marked as kept.
 fn is_kept(s: State, marks: &[u8], j: usize) -> bool
@@ -82,50 +80,6 @@ fn losses_fit(s: State, marks: &[u8], a: usize, k: usize, room: usize) -> bool
         i += 1;
     }
     true
-}
-
-// Writes a sheet with another number of columns in the place of its own.
-fn put_good(out: &mut [u8], kept: usize, sheet: &[u8]) -> usize
-    requires { ⌜ (countAt (now sheet) 5 .next ≤ length (now sheet)) × (25 + length (now sheet) ≤ length (now out)) ⌝ }
-    ensures { λ r. ⌜ WroteOn (corrected (now (sheet .entry)) kept) 0 (now (out .entry)) r (now (out .exit)) ⌝ }
-{
-    let place = count_at(sheet, 5).next;
-    let a = put_word(&mut out[..], 0, b"thin\t");
-    let b = put_count(&mut out[..], a, kept as u64);
-    put_word(out, b, &sheet[place..])
-}
-
-// Writes what stands before the lines of those that are lost.
-pub fn put_front(out: &mut [u8], s: State, room: &[u8]) -> usize
-    requires { ⌜ (s .end ≤ 35572) × (s .end ≤ length (now room)) × (35700 ≤ length (now out)) × (Opened s (now room)) ⌝ }
-    ensures { λ r. ⌜ WroteOn (frontIn s (now (room .entry))) 0 (now (out .entry)) r (now (out .exit)) ⌝ }
-{
-    if !s.good {
-        return put_note(out, 0, b"bad\t", 1);
-    }
-    if (0 < s.m) & (s.kept == 0) {
-        return put_note(out, 0, b"bad\t", 2);
-    }
-    let end = s.end;
-    put_good(out, s.kept, &room[..end])
-}
-
-// How many lines behind the first are kept or lost: none where all is bad.
-pub fn judged_of(s: State) -> usize
-    requires { ⌜ s .lines < 9223372036854775808 ⌝ }
-    ensures { λ r. ⌜ r ≡ judgedIn s ⌝ }
-{
-    if !s.good {
-        return 0;
-    }
-    if (0 < s.m) & (s.kept == 0) {
-        return 0;
-    }
-    if s.long == 0 {
-        if s.lines == 0 { 0 } else { s.lines - 1 }
-    } else {
-        s.lines
-    }
 }
 
 // Writes what is saved in a lent buffer, and says how long it is. Where it does not fit, nothing is written and 0 is said.

@@ -21,9 +21,9 @@ use Rattle.form.proofs.Segments.{Seg, seg-first, whole-seg}
 use Rattle.form.proofs.OfForm.{head-read}
 use Rattle.form.proofs.Taken.{head-said, head-fits}
 use Rattle.form.proofs.Verdicts.{first-wrong}
-use Rattle.salvaging.specs.Words.{badWord}
+use Rattle.keeping.specs.Words.{badWord}
 use Rattle.gathering.specs.Lines.{Lines, noLines, more, after, lineAt}
-use Rattle.salvaging.specs.Saved.{many, lostText, goodSheet, noneLeft, frontText, judged, salvaged}
+use Rattle.keeping.specs.Saved.{many, lostText, goodSheet, noneLeft, frontText, judged, salvaged}
 use Rattle.gathering.specs.Kept.{isFirst, kept}
 use Rattle.gathering.proofs.Indexed.{withLine, many-lines, line-before, no-line, no-first}
 use Rattle.gathering.proofs.Parted.{pieces-are-the-whole}

@@ -28,7 +28,7 @@ use Rattle.form.proofs.Segments.{Seg, seg-first, seg-rest, seg-byte, seg-count,
 use Rattle.form.proofs.OfForm.{of-the-form-is-taken}
 use Rattle.form.proofs.Taken.{head-said, head-fits, column-said}
 use Rattle.gathering.specs.Lines.{Lines, noLines, after, lineAt}
-use Rattle.salvaging.specs.Saved.{many, corrected, goodSheet}
+use Rattle.keeping.specs.Saved.{many, corrected, goodSheet}
 use Rattle.gathering.specs.Kept.{isFirst, isLine, keptBy, kept, keptText}
 use Rattle.gathering.proofs.Indexed.{no-line, nothing-kept, kept-is, first-sizes, count-few}
 use Rattle.saved.specs.Kept.{keptPlace, keptLine, Stands, weightIn, entryIn, savedSheet}

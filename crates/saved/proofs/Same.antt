@@ -19,7 +19,7 @@ use Rattle.form.proofs.Segments.{whole-seg}
 use Rattle.form.proofs.OfForm.{head-read, column-good, length-column}
 use Rattle.form.proofs.Taken.{taken-is-of-the-form}
 use Rattle.gathering.specs.Lines.{Lines, noLines, after, lineAt}
-use Rattle.salvaging.specs.Saved.{many, lostLine, lostText, corrected, goodSheet, noneLeft, frontText, judged, salvaged}
+use Rattle.keeping.specs.Saved.{many, lostLine, lostText, corrected, goodSheet, noneLeft, frontText, judged, salvaged}
 use Rattle.gathering.specs.Kept.{isFirst, isLine, keptBy, kept, keptText}
 use Rattle.gathering.proofs.Indexed.{first-not-kept}
 use Rattle.saved.proofs.Texts.{sheet-lines}

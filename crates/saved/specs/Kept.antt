@@ -10,7 +10,7 @@ use Rattle.head.specs.FirstLine.{headOf}
 use Rattle.form.specs.Form.{wrongLine}
 use Rattle.form.specs.Sheets.{Sheet, sheetOf}
 use Rattle.gathering.specs.Lines.{Lines, lineAt}
-use Rattle.salvaging.specs.Saved.{many}
+use Rattle.keeping.specs.Saved.{many}
 use Rattle.gathering.specs.Kept.{kept}
 use Rattle.saved.specs.Whole.{joined}
 

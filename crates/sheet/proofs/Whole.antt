@@ -18,7 +18,7 @@ use Rattle.fields.proofs.Puts.{length-note}
 use Rattle.limits.specs.Matrix.{columnsOf}
 use Rattle.weights.specs.Weights.{normalized}
 use Rattle.rules.specs.declared.Rule.{Rule}
-use Rattle.sparsification.specs.Answers.{returned, stopFor}
+use Rattle.answers.specs.Answers.{returned, stopFor}
 use Rattle.stages.proofs.Lengths.{length-normalized, length-stage}
 use Rattle.head.specs.declared.Head.{Head}
 use Rattle.head.specs.declared.EditionField.{EditionField}

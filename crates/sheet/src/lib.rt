@@ -1,9 +1,9 @@
 // The sheet: from the bytes of a job to the bytes of its answer.
 use asking::answer_sheet;
-use fields::copy_bytes;
-use fields::put_note;
-use form::wrong_line;
 use head::head_of;
+use lines::wrong_line;
+use putting::copy_bytes;
+use putting::put_note;
 ghost use Prim.Native.Nat.{_≤_};
 ghost use lib.ListN.{length};
 ghost use Rattle.answering.specs.Steps.{Wrote};

@@ -18,7 +18,7 @@ use Rattle.ieee.specs.Magnitude.{absOf, aboveOf}
 use Rattle.ieee.specs.Units.{isNum}
 use Rattle.arranged.specs.Arranged.{occurs, Order, InOrder, Arranged, EachOnce}
 use Rattle.ranking.specs.Ranking.{heavier}
-use Rattle.sorting.specs.Moved.{movedRows, Numbers}
+use Rattle.marking.specs.Moved.{movedRows, Numbers}
 use Rattle.ahead.specs.Sizes.{Sizes, sizesOf}
 use Rattle.arranged.proofs.Heights.{heavier-order}
 use Rattle.arranged.proofs.Inserting.{arranged-is, sorted-same, sorted-order}

@@ -1,21 +1,22 @@
 // The thinning: sparsify, sparsify_within, and thin, which takes either's rule in a job.
+use answers::Answer;
+use answers::answer_for;
+use answers::refused;
 use draw::SplitMix64;
 use faults::job_fault;
+use following::follow;
 use rules::Cap;
 use rules::Rule;
 use seq::clear;
 use seq::clear_words;
 use seq::copy;
-use stages::Path;
-use stages::follow;
 use weights::normalize;
 ghost use mathlib.Core.Path.{_≡_};
-ghost use Prim.Native.Nat.{_≤_};
 ghost use lib.ListN.{length};
 ghost use Rattle.seq.specs.Sums.{plusZero};
 ghost use Rattle.draw.specs.SplitMix.{seeded};
-ghost use Rattle.sparsification.specs.Answers.{refusal, Thinned};
-ghost use Rattle.sparsification.specs.Thinning.{answerFor, ThinnedFrom};
+ghost use Rattle.answers.specs.Answers.{Thinned};
+ghost use Rattle.answers.specs.Thinning.{ThinnedFrom};
 ghost use Rattle.rules.specs.Rules.{ruleFault};
 ghost use Rattle.faults.specs.Faults.{valueFault};
 ghost use Rattle.rules.specs.declared.Rule.the-variants.{Target, Within};
@@ -23,7 +24,7 @@ ghost use Rattle.limits.specs.Limits.{bounded};
 ghost use Rattle.limits.specs.Reading.{readOf};
 ghost use Rattle.ieee.specs.Constants.{one};
 ghost use Rattle.weights.specs.Weights.{normalized};
-ghost use Rattle.halve.specs.Handed.{Ready};
+ghost use Rattle.halved.specs.Handed.{Ready};
 ghost use mathlib.Core.Bool.{true};
 
 // A seed, the edition of its draws, 1 or 2, and a rule.
@@ -31,55 +32,6 @@ pub struct Job {
     pub seed: u64,
     pub edition: u32,
     pub rule: Rule,
-}
-
-// The refusal number or 0, the stage that is returned, its nonzero entries, and its change from the normalized input; the directions drawn
-// and the sweeps made in all passes, in one that was tried and discarded too; then the entries and the change of each stage from 0 to the
-// one returned, and zeros after it.
-#[repr(C)]
-pub struct Answer {
-    pub number: u64,
-    pub stage: u64,
-    pub nonzeros: u64,
-    pub change: f64,
-    pub directions: u64,
-    pub sweeps: u64,
-    pub path_nonzeros: [u64; 9],
-    pub path_change: [f64; 9],
-}
-
-// A refusal: its number, and zeros.
-pub fn refused(number: u64) -> Answer
-    ensures { λ r. ⌜ r ≡ refusal number ⌝ }
-{
-    Answer {
-        number,
-        stage: 0,
-        nonzeros: 0,
-        change: 0.0,
-        directions: 0,
-        sweeps: 0,
-        path_nonzeros: [0; 9],
-        path_change: [0.0; 9],
-    }
-}
-
-// The answer for the end of a path.
-fn answer_for(p: Path) -> Answer
-    requires { ⌜ p .stage ≤ 8 ⌝ }
-    ensures { λ r. ⌜ r ≡ answerFor p ⌝ }
-{
-    let last = p.stage;
-    Answer {
-        number: 0,
-        stage: last as u64,
-        nonzeros: p.nonzeros[last],
-        change: p.change[last],
-        directions: p.directions as u64,
-        sweeps: p.sweeps as u64,
-        path_nonzeros: p.nonzeros,
-        path_change: p.change,
-    }
 }
 
 // Thins from the normalized weights into the output, and wipes the scratch. next is room for a pass that is only tried.

@@ -15,17 +15,17 @@ use Rattle.seq.proofs.Keeping.{count-short}
 use Rattle.draw.specs.SplitMix.{afterOf}
 use Rattle.draw.specs.declared.SplitMix64.{SplitMix64}
 use Rattle.direction.specs.Direction.{afterDraws}
-use Rattle.walk.proofs.Counts.{draws-more}
-use Rattle.coloring.specs.Coloring.{Colored, coloringOf}
-use Rattle.coloring.specs.Draws.{afterOutputs, Moved}
-use Rattle.coloring.proofs.Counts.{moved}
+use Rattle.walked.proofs.Counts.{draws-more}
+use Rattle.colored.specs.Coloring.{Colored, coloringOf}
+use Rattle.colored.specs.Draws.{afterOutputs, Moved}
+use Rattle.colored.proofs.Counts.{moved}
 use Rattle.weights.specs.Weights.{isOn, nonzeros}
 use Rattle.ranking.specs.Ranking.{restOf, omegaOf}
 use Rattle.doubling.specs.Doubling.{remaining}
 use Rattle.doubling.proofs.Turns.{those-short}
-use Rattle.halve.specs.Halve.{Halved, scaledColumns, halvedBy, halvedOnce}
-use Rattle.halving.specs.Halving.{halvedTwice, passOf}
-use Rattle.halving.proofs.Rest.{length-rest}
+use Rattle.halved.specs.Halve.{Halved, scaledColumns, halvedBy, halvedOnce}
+use Rattle.passed.specs.Halving.{halvedTwice, passOf}
+use Rattle.passed.proofs.Rest.{length-rest}
 use Rattle.rules.specs.Rules.{ruleFault}
 use Rattle.rules.specs.declared.Rule.{Rule}
 use Rattle.stages.specs.Stages.{stageOf}

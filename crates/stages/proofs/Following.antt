@@ -18,22 +18,22 @@ use Rattle.seq.specs.Lists.{tabulate, repeated}
 use Rattle.seq.specs.Sums.{plusZero}
 use Rattle.seq.proofs.Filling.{Filled, filled, turn, length-tab, getD-tab}
 use Rattle.seq.proofs.Filling as filling
-use Rattle.margins.specs.Margins.{maxChange}
+use Rattle.change.specs.Margins.{maxChange}
 use Rattle.weights.specs.Weights.{isOn, nonzeros}
-use Rattle.halve.specs.Halve.{Halved}
-use Rattle.halve.specs.Handed.{halvesOf}
-use Rattle.halving.specs.Halving.{passOf}
+use Rattle.halved.specs.Halve.{Halved}
+use Rattle.halved.specs.Handed.{halvesOf}
+use Rattle.passed.specs.Halving.{passOf}
 use Rattle.stages.specs.Stages.{stageOf, movedBy, pathOf}
 use Rattle.rules.specs.Rules.{meets, ruleFault}
 use Rattle.stages.specs.Stopping.{entriesAt, above, rests, exceeds, stops, stopOf, passesTo}
 use Rattle.stages.specs.Paths.{Noted, Followed}
 use Rattle.stages.specs.declared.Path.{Path}
-use Rattle.trial.specs.Trial.{TriedOnce, aboveAfter}
-use Rattle.coloring.specs.declared.Counted.{Counted}
+use Rattle.tried.specs.Trial.{TriedOnce, aboveAfter}
+use Rattle.colored.specs.declared.Counted.{Counted}
 use Rattle.rules.specs.declared.Cap.{Cap}
 use Rattle.rules.specs.declared.Rule.{Rule}
 use Rattle.rules.specs.declared.Rule.the-variants.{Target, Within}
-use Rattle.trial.specs.declared.Tried.{Tried}
+use Rattle.tried.specs.declared.Tried.{Tried}
 use Rattle.seq.proofs.Choosing.{first-holds, second-holds}
 use Rattle.stages.proofs.Halting.{Leads, Falls, goes, only, stop-is-first, below-more}
 use Rattle.seq.proofs.Keeping.{count-short}

@@ -8,12 +8,12 @@ use lib.ListN.{length, getD, length-set}
 use lib.Ieee.{Float}
 use Rattle.seq.specs.Choice.{pick}
 use Rattle.seq.proofs.Filling.{length-tab}
-use Rattle.coloring.specs.Coloring.{Colored, coloringOf}
+use Rattle.colored.specs.Coloring.{Colored, coloringOf}
 use Rattle.weights.specs.Weights.{normalized}
 use Rattle.ranking.specs.Ranking.{restOf, omegaOf}
-use Rattle.halve.specs.Halve.{Halved, scaledColumns, halvedBy, halvedOnce}
+use Rattle.halved.specs.Halve.{Halved, scaledColumns, halvedBy, halvedOnce}
 use Rattle.doubling.specs.Doubling.{remaining, sigmaOf, halvedTo}
-use Rattle.halving.specs.Halving.{halvedTwice, passOf}
+use Rattle.passed.specs.Halving.{halvedTwice, passOf}
 use Rattle.stages.specs.Stages.{stageOf}
 use Rattle.draw.specs.declared.SplitMix64.{SplitMix64}
 

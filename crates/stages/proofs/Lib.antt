@@ -2,8 +2,8 @@
 pub mod Halting
 pub mod Lengths
 pub mod Following
-pub mod Passing
 pub mod Totals
 pub mod Drawing
 pub mod SameStages
 pub mod SameMatrix
+pub mod Passing

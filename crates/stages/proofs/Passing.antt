@@ -27,9 +27,9 @@ use Rattle.limits.specs.Limits.{bounded}
 use Rattle.limits.proofs.Bounded.{bounded-at, finite-within}
 use Rattle.ieee.specs.Constants.{one}
 use Rattle.weights.specs.Weights.{isOn, l1Of, sound, overAt, normalized}
-use Rattle.halve.specs.Halve.{Halved}
-use Rattle.halving.proofs.Fewer.{sum, sum-sound, pass-normal, pass-same-sign}
-use Rattle.halving.proofs.Quarter.{pass-half}
+use Rattle.halved.specs.Halve.{Halved}
+use Rattle.passed.proofs.Fewer.{sum, sum-sound, pass-normal, pass-same-sign}
+use Rattle.passed.proofs.Quarter.{pass-half}
 use Rattle.stages.specs.Stages.{stageOf}
 use Rattle.stages.specs.Among.{Among}
 use Rattle.seq.proofs.Choosing.{both, holds, shown}

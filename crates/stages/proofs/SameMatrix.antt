@@ -12,14 +12,14 @@ use Rattle.seq.specs.Choice.{pick}
 use Rattle.seq.specs.Indices.{Below}
 use Rattle.ieee.specs.Magnitude.{absOf}
 use Rattle.draw.specs.declared.SplitMix64.{SplitMix64}
-use Rattle.coloring.proofs.SameColumns.{coloring-same}
+use Rattle.colored.proofs.SameColumns.{coloring-same}
 use Rattle.margins.proofs.SameEntries.{largest-same}
 use Rattle.doubling.specs.Doubling.{remaining, scaleAt}
 use Rattle.ranking.specs.Ranking.{restOf, omegaOf}
-use Rattle.halve.specs.Halve.{Halved, scaledColumns, halvedOnce}
-use Rattle.halve.proofs.Calls.{remaining-below}
-use Rattle.halving.specs.Halving.{halvedTwice, passOf}
-use Rattle.halving.proofs.Calls.{rest-below}
+use Rattle.halved.specs.Halve.{Halved, scaledColumns, halvedOnce}
+use Rattle.halved.proofs.Calls.{remaining-below}
+use Rattle.passed.specs.Halving.{halvedTwice, passOf}
+use Rattle.passed.proofs.Calls.{rest-below}
 use Rattle.rules.specs.declared.Rule.{Rule}
 use Rattle.stages.specs.Stages.{stageOf, movedBy, pathNonzeros, pathChange}
 use Rattle.stages.specs.Stopping.{stopOf, passesTo}

@@ -8,7 +8,7 @@ use lib.ListN.{length}
 use lib.Ieee.{Float, le}
 use Rattle.seq.specs.Choice.{pick}
 use Rattle.weights.specs.Weights.{nonzeros}
-use Rattle.halve.specs.Halve.{Halved}
+use Rattle.halved.specs.Halve.{Halved}
 use Rattle.rules.specs.Rules.{meets}
 use Rattle.rules.specs.declared.Rule.{Rule}
 use Rattle.rules.specs.declared.Rule.the-variants.{Target, Within}

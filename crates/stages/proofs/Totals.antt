@@ -14,12 +14,12 @@ use Rattle.seq.specs.Sums.{plusZero}
 use Rattle.seq.proofs.Choosing.{never}
 use Rattle.seq.proofs.Keeping.{count-short}
 use Rattle.weights.specs.Weights.{isOn}
-use Rattle.halve.specs.Handed.{Countable}
-use Rattle.halving.proofs.Adding.{pass-adds}
+use Rattle.halved.specs.Handed.{Countable}
+use Rattle.passed.proofs.Adding.{pass-adds}
 use Rattle.rules.specs.Rules.{ruleFault}
 use Rattle.stages.specs.Stages.{stageOf}
 use Rattle.stages.specs.Stopping.{entriesAt, rests, stopOf, passesTo}
-use Rattle.coloring.specs.declared.Counted.{Counted}
+use Rattle.colored.specs.declared.Counted.{Counted}
 use Rattle.rules.specs.declared.Rule.{Rule}
 use Rattle.stages.proofs.Halting.{Leads, Falls, few-rests, leads}
 use Rattle.stages.proofs.Lengths.{length-stage}

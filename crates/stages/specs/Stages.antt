@@ -9,9 +9,9 @@ use lib.Ieee.{Float}
 use Rattle.seq.specs.Lists.{tabulate, repeated}
 use Rattle.seq.specs.Sums.{plusZero}
 use Rattle.weights.specs.Weights.{nonzeros}
-use Rattle.halve.specs.Halve.{Halved}
-use Rattle.halving.specs.Halving.{passOf}
-use Rattle.margins.specs.Margins.{maxChange}
+use Rattle.halved.specs.Halve.{Halved}
+use Rattle.passed.specs.Halving.{passOf}
+use Rattle.change.specs.Margins.{maxChange}
 use Rattle.draw.specs.declared.SplitMix64.{SplitMix64}
 
 -- stage i from the normalized weights and the generator that a job starts with: weights, the generator after them, and what the passes

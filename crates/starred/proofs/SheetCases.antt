@@ -13,8 +13,8 @@ use Rattle.draw.specs.SplitMix.{seeded}
 use Rattle.draw.specs.declared.SplitMix64.{SplitMix64}
 use Rattle.form.specs.Sheets.{Sheet, Wish, Fits, Says, ruleOf, wishFits}
 use Rattle.faults.specs.Faults.{jobFault}
-use Rattle.sparsification.specs.Answers.{refusal, answerOf, returned}
-use Rattle.sparsification.specs.declared.Answer.{Answer}
+use Rattle.answers.specs.Answers.{refusal, answerOf, returned}
+use Rattle.answers.specs.declared.Answer.{Answer}
 use Rattle.asking.specs.Jobs.{sheetFault, jobAnswer, jobText}
 use Rattle.answering.specs.Answer.{okLine, answerText}
 use Rattle.sheet.specs.Answer.{sheetAnswer}

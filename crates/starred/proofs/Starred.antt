@@ -18,16 +18,16 @@ use Rattle.ieee.specs.Magnitude.{signumOf, aboveOf, largerOf, maxAbsTo}
 use Rattle.ieee.proofs.Normalised.{Normal}
 use Rattle.limits.specs.Limits.{numbersNeeded, indicesNeeded}
 use Rattle.limits.specs.Matrix.{columnsOf}
-use Rattle.margins.specs.Margins.{changeTo, maxChange}
+use Rattle.change.specs.Margins.{changeTo, maxChange}
 use Rattle.weights.specs.Weights.{nonzeros, isOn, l1Of, normalized}
 use Rattle.ranking.specs.Ranking.{heavier}
-use Rattle.halving.specs.Alone.{Largest, Alone}
+use Rattle.passed.specs.Alone.{Largest, Alone}
 use Rattle.stages.specs.Stages.{stageOf}
 use Rattle.stages.specs.Stopping.{rests, stops}
 use Rattle.rules.specs.Rules.{ruleFault}
 use Rattle.faults.specs.Faults.{editionFault, sizeFault, valueFault, jobFault}
-use Rattle.sparsification.specs.Answers.{refusal, answerAt, Thinned}
-use Rattle.sparsification.specs.declared.Answer.{Answer}
+use Rattle.answers.specs.Answers.{refusal, answerAt, Thinned}
+use Rattle.answers.specs.declared.Answer.{Answer}
 use Rattle.rules.specs.declared.Cap.the-variants.{Absent, AtMost}
 use Rattle.rules.specs.declared.Rule.{Rule}
 use Rattle.rules.specs.declared.Rule.the-variants.{Target, Within}
@@ -38,7 +38,7 @@ use Rattle.draw.proofs.Cases.{state-becomes-zero, largest}
 use Rattle.margins.proofs.SmallCase.{answered}
 use Rattle.seq.proofs.Choosing.{first-holds}
 use Rattle.stages.proofs.Halting.{FirstStop, few-rests}
-use Rattle.sparsification.proofs.Accepting.{values-good}
+use Rattle.answers.proofs.Accepting.{values-good}
 use Rattle.stages.proofs.Passing.{normal-start}
 use Rattle.demand.proofs.DemandThree.{Doubles}
 use Rattle.demand.proofs.Settled.{stage-alone, settled}

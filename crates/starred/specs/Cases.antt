@@ -13,12 +13,12 @@ use Rattle.draw.specs.SplitMix.{seeded, outputOf, afterOf}
 use Rattle.draw.specs.Uniform.{uniformOf, uniformIn}
 use Rattle.limits.specs.Limits.{numbersNeeded, indicesNeeded}
 use Rattle.margins.specs.Answers.{changeAnswer}
-use Rattle.sparsification.specs.Answers.{refusal, Thinned}
+use Rattle.answers.specs.Answers.{refusal, Thinned}
 use Rattle.rules.specs.Rules.{ruleFault}
 use Rattle.faults.specs.Faults.{editionFault}
 use Rattle.sheet.specs.Answer.{sheetAnswer}
 use Rattle.starred.specs.SheetBytes.{sheetWith, halfRule, underHalfRule, cappedRule, oneLeftText, bothLeftText}
-use Rattle.sparsification.specs.declared.Answer.{Answer}
+use Rattle.answers.specs.declared.Answer.{Answer}
 use Rattle.rules.specs.declared.Cap.the-variants.{Absent, AtMost}
 use Rattle.rules.specs.declared.Rule.{Rule}
 use Rattle.rules.specs.declared.Rule.the-variants.{Target, Within}

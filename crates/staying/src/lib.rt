@@ -1,7 +1,7 @@
 // Whether a vector over the rows, less a column of bits, stays below a bound in magnitude. It decides a flip.
 use ieee::abs;
-use limits::bit;
 use limits::wide;
+use spare::bit;
 ghost use mathlib.Core.Path.{_≡_};
 ghost use mathlib.Core.Bool.{true};
 ghost use Prim.Native.Nat.{_≤_, _<_, _+_, _*_};

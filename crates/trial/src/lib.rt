@@ -1,10 +1,11 @@
 // One more pass, tried: its weights are taken unless they measure above the allowance and the cap is met already.
-use coloring::Counted;
+use change::change_of;
+use colored::Counted;
 use halving::halving_pass;
-use margins::change_of;
 use rules::Cap;
 use rules::meets_cap;
 use seq::copy;
+use tried::Tried;
 use weights::count_nonzeros;
 ghost use mathlib.Core.Path.{_≡_};
 ghost use Prim.Native.Nat.{_≤_};
@@ -12,9 +13,9 @@ ghost use mathlib.Core.Bool.{_&&_};
 ghost use lib.ListN.{length};
 ghost use Rattle.limits.specs.Reading.{readOf};
 ghost use Rattle.weights.specs.Weights.{nonzeros};
-ghost use Rattle.halve.specs.Handed.{Ready, Countable};
+ghost use Rattle.halved.specs.Handed.{Ready, Countable};
 ghost use Rattle.rules.specs.Rules.{meets};
-ghost use Rattle.trial.specs.Trial.{TriedOnce};
+ghost use Rattle.tried.specs.Trial.{TriedOnce};
 
 // Whether weights meet the cap, where the change is above the allowance.
 fn ends_there(above: bool, cap: Cap, w: &[f64]) -> bool
@@ -25,15 +26,6 @@ fn ends_there(above: bool, cap: Cap, w: &[f64]) -> bool
     } else {
         false
     }
-}
-
-// How a try of one more pass ended: the tally with it, what it measured, whether its weights were taken, and whether another is to be
-// tried.
-pub struct Tried {
-    pub tally: Counted,
-    pub change: f64,
-    pub taken: bool,
-    pub more: bool,
 }
 
 // Tries one more pass from w, and takes its weights unless it measures above the allowance and w meets the cap.

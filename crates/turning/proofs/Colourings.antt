@@ -17,14 +17,14 @@ use Rattle.ieee.proofs.Alikes.{alike-refl, le-alike, pick-alike}
 use Rattle.ieee.proofs.Equality.{alike-nonzero}
 use Rattle.seq.specs.Marks.{isSet}
 use Rattle.ieee.specs.Constants.{one, minusOne}
-use Rattle.entries.specs.Rows.{times}
+use Rattle.chosen.specs.Rows.{times}
 use Rattle.begin.specs.Begin.{begun}
-use Rattle.walk.specs.Walk.{Course, courseOf, freeOnes}
+use Rattle.walked.specs.Walk.{Course, courseOf, freeOnes}
 use Rattle.places.specs.Places.{chosen, putBack, roundedAt}
-use Rattle.phasing.specs.Phase.{Between, roundedOff, phased}
-use Rattle.coloring.specs.Coloring.{settled, walked, coloringOf}
-use Rattle.coloring.proofs.Marked.{Colour}
-use Rattle.coloring.proofs.Colours.{Coloured, walk-colours}
+use Rattle.phased.specs.Phase.{Between, roundedOff, phased}
+use Rattle.colored.specs.Coloring.{settled, walked, coloringOf}
+use Rattle.colored.proofs.Marked.{Colour}
+use Rattle.colored.proofs.Colours.{Coloured, walk-colours}
 use Rattle.draw.specs.declared.SplitMix64.{SplitMix64}
 use Rattle.turning.proofs.Signed.{Facing, facing, zero-facing}
 use Rattle.turning.proofs.Pairs.{each-at, each-set, each-tab, each-tabs, pick-both, run-both}

@@ -25,7 +25,7 @@ use Rattle.ieee.proofs.Sums.{Size, sum-size}
 use Rattle.root.proofs.RootResults.{sqrt-size}
 use Rattle.ieee.proofs.Alikes.{alike-refl, le-alike, sum-up-is}
 use Rattle.linear.specs.Vectors.{dotOf, normOf}
-use Rattle.linear.specs.Basis.{lessAt, stripped, passTo, projected, dropTolerance, taken}
+use Rattle.basis.specs.Basis.{lessAt, stripped, passTo, projected, dropTolerance, taken}
 
 -- ---- a NaN stays
 

@@ -18,12 +18,12 @@ use Rattle.ieee.specs.Flat.{Alike}
 use Rattle.ieee.proofs.Signs.{nought-is}
 use Rattle.ieee.proofs.Ops.{unlike-false}
 use Rattle.ieee.proofs.Alikes.{alike-refl}
-use Rattle.coloring.specs.Coloring.{Colored}
+use Rattle.colored.specs.Coloring.{Colored}
 use Rattle.weights.specs.Weights.{l1Of, sound, overAt, normalized}
 use Rattle.ranking.specs.Ranking.{restOf, omegaOf}
 use Rattle.doubling.specs.Doubling.{remaining, scaleAt}
-use Rattle.halve.specs.Halve.{scaledColumns, Halved, halvedBy, halvedOnce}
-use Rattle.halving.specs.Halving.{halvedTwice, passOf}
+use Rattle.halved.specs.Halve.{scaledColumns, Halved, halvedBy, halvedOnce}
+use Rattle.passed.specs.Halving.{halvedTwice, passOf}
 use Rattle.turning.proofs.Signed.{Facing, facing, mul-facing}
 use Rattle.turning.proofs.Colourings.{coloring-same}
 

@@ -11,7 +11,7 @@ use Rattle.ieee.specs.Constants.{two}
 use Rattle.ieee.specs.Magnitude.{maxAbsTo}
 use Rattle.ieee.proofs.Alikes.{alike-of-eq}
 use Rattle.linear.specs.Vectors.{maxAbsOf}
-use Rattle.search.specs.Search.{improvement, Search, flippedAt, improves, flipped, sweepTo, sweptOf, Searched, searchTo, searched}
+use Rattle.flipping.specs.Search.{improvement, Search, flippedAt, improves, flipped, sweepTo, sweptOf, Searched, searchTo, searched}
 use Rattle.turning.proofs.Signed.{Facing, facing, unlike-none, sub-facing, mul-facing, maxAbs-same}
 use Rattle.turning.proofs.Pairs.{each-tabs, pick-both}
 use Rattle.turning.proofs.Walks.{Along, at-facing}

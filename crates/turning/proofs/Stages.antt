@@ -11,10 +11,10 @@ use Rattle.seq.specs.Choice.{pick}
 use Rattle.seq.specs.Sums.{plusZero, minusZero, at}
 use Rattle.ieee.proofs.Alikes.{alike-refl}
 use Rattle.ieee.proofs.Ops.{unlike-false}
-use Rattle.margins.specs.Margins.{changeTo, maxChange}
+use Rattle.change.specs.Margins.{changeTo, maxChange}
 use Rattle.weights.specs.Weights.{nonzeros, l1Of, sound, normalized}
-use Rattle.halve.specs.Halve.{Halved}
-use Rattle.halving.specs.Halving.{passOf}
+use Rattle.halved.specs.Halve.{Halved}
+use Rattle.passed.specs.Halving.{passOf}
 use Rattle.draw.specs.declared.SplitMix64.{SplitMix64}
 use Rattle.turning.proofs.Signed.{Facing, facing, add-facing, mul-facing, pick-facing, zero-facing, maxAbs-same}
 use Rattle.turning.proofs.Passes.{sound-same, Start, plus-start, minus-start, pass-same}

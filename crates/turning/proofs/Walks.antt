@@ -21,16 +21,16 @@ use Rattle.ieee.proofs.Alikes.{lt-alike, le-alike, eq-alike, pick-alike, smalle
 use Rattle.ieee.proofs.Equality.{signum-alike}
 use Rattle.root.proofs.RootResults.{sqrt-alike}
 use Rattle.linear.specs.Vectors.{dotOf, normOf}
-use Rattle.linear.specs.Basis.{lessAt, stripped, passTo, projected, dropTolerance, taken, overAt, unit, inserted}
-use Rattle.entries.specs.Rows.{rowOf, rowNorm, rowNorms, timesAt, times, firstRows}
+use Rattle.basis.specs.Basis.{lessAt, stripped, passTo, projected, dropTolerance, taken, overAt, unit, inserted}
+use Rattle.chosen.specs.Rows.{rowOf, rowNorm, rowNorms, timesAt, times, firstRows}
 use Rattle.order.specs.Order.{comesFirst, worstTo}
 use Rattle.seq.specs.Marks.{isSet}
 use Rattle.ieee.specs.Constants.{one, minusOne}
 use Rattle.direction.specs.Direction.{degenerate, afterDraws, drawn, zeroedAt, zeroed, directed, tooShort, uphill, turnedAt, turned}
-use Rattle.freeze.specs.Freeze.{freezeLimit, Walk, axis, freezes, blocking, frozenAt, freezeTo}
+use Rattle.blocking.specs.Freeze.{freezeLimit, Walk, axis, freezes, blocking, frozenAt, freezeTo}
 use Rattle.direction.specs.Step.{reachAt, reachTo, movedAt, moved, alongAt, along}
 use Rattle.begin.specs.Begin.{blockTo, marksTo, begun}
-use Rattle.walk.specs.Walk.{Stepped, drew, advanced, steppedAlong, stepOf, Course, further, ended, freeOnes, courseFrom, courseOf}
+use Rattle.walked.specs.Walk.{Stepped, drew, advanced, steppedAlong, stepOf, Course, further, ended, freeOnes, courseFrom, courseOf}
 use Rattle.draw.specs.declared.SplitMix64.{SplitMix64}
 use Rattle.turning.proofs.Signed.{Facing, facing, nan-facing, zero-facing, unlike-self, unlike-none, unlike-back}
 use Rattle.turning.proofs.Signed.{add-facing, sub-facing, mul-facing, div-facing, neg-facing, pick-facing, sum-facing, above-same}

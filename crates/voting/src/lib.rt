@@ -1,108 +1,12 @@
 // Thinning from labels and confidences, the kept columns packed. No margin is formed: the sign of a row reaches no answer.
-use faults::edition_fault;
-use faults::size_fault;
-use limits::too_large;
+use answers::Answer;
+use answers::refused;
 use packing::pack;
-use rules::Rule;
-use rules::rule_fault;
-use sparsification::Answer;
 use sparsification::Job;
-use sparsification::refused;
 use sparsification::thin;
-ghost use mathlib.Core.Path.{_≡_};
-ghost use Rattle.seq.specs.Choice.{pick};
-ghost use Rattle.limits.specs.Limits.{tooLarge};
+use votefaults::call_fault;
 ghost use Rattle.draw.specs.SplitMix.{seeded};
-ghost use Rattle.voting.specs.Votes.{isLabel, allLabels, listFault, callFault, VotesThinned};
-
-// Whether a label is 1 or -1.
-fn is_label(y: i8) -> bool
-    ensures { λ r. ⌜ r ≡ isLabel y ⌝ }
-{
-    (y == 1) | (y == -1)
-}
-
-// Whether every label is.
-fn all_labels(labels: &[i8]) -> bool
-    ensures { λ r. ⌜ r ≡ allLabels (now (labels .entry)) ⌝ }
-{
-    let mut ok = true;
-    let mut i = 0usize;
-    while i < labels.len() {
-        ok = ok & is_label(labels[i]);
-        i += 1;
-    }
-    ok
-}
-
-// 3 where the sizes are too large, and 4 for a list of another length.
-fn length_fault(m: usize, n: usize) -> u64
-    ensures { λ r. ⌜ r ≡ pick (tooLarge m n) 3 4 ⌝ }
-{
-    if too_large(m, n) { 3 } else { 4 }
-}
-
-// 3 to 6, of the sizes.
-fn list_fault(
-    m: usize,
-    n: usize,
-    confidences: usize,
-    labels: usize,
-    weights: usize,
-    columns: usize,
-    kept: usize,
-    numbers: usize,
-    indices: usize,
-) -> u64
-    ensures { λ r. ⌜ r ≡ listFault m n confidences labels weights columns kept numbers indices ⌝ }
-{
-    let whole = (labels == n) & (kept == m);
-    if whole {
-        return size_fault(m, n, confidences, weights, columns, numbers, indices);
-    }
-    length_fault(m, n)
-}
-
-// What is tested before the values: the rule, the edition, the sizes, and the labels.
-fn call_fault(
-    rule: Rule,
-    edition: u32,
-    confidences: usize,
-    labels: &[i8],
-    m: usize,
-    n: usize,
-    weights: usize,
-    columns: usize,
-    kept: usize,
-    numbers: usize,
-    indices: usize,
-) -> u64
-    ensures { λ r. ⌜ r ≡ callFault rule edition confidences (now (labels .entry)) m n weights columns kept numbers indices ⌝ }
-{
-    let first = rule_fault(rule);
-    if first != 0 {
-        return first;
-    }
-    let second = edition_fault(edition);
-    if second != 0 {
-        return second;
-    }
-    let third = list_fault(
-        m,
-        n,
-        confidences,
-        labels.len(),
-        weights,
-        columns,
-        kept,
-        numbers,
-        indices,
-    );
-    if third != 0 {
-        return third;
-    }
-    if all_labels(labels) { 0 } else { 14 }
-}
+ghost use Rattle.votefaults.specs.Votes.{VotesThinned};
 
 // Thins the columns of margins, label times confidence, as the job says, and packs what is left: the kept columns' numbers and their
 // weights.

@@ -21,15 +21,15 @@ use Rattle.stages.specs.Stages.{stageOf}
 use Rattle.stages.proofs.Halting.{leads}
 use Rattle.stages.proofs.Lengths.{length-stage, length-normalized}
 use Rattle.stages.proofs.Passing.{falling, normal-stage}
-use Rattle.sparsification.specs.Answers.{stopFor, returned}
-use Rattle.sparsification.proofs.Accepting.{Accepted, accepted}
+use Rattle.answers.specs.Answers.{stopFor, returned}
+use Rattle.answers.proofs.Accepting.{Accepted, accepted}
 use Rattle.demand.proofs.DemandThree.{Doubles, start-normal, start-few}
-use Rattle.sparsification.proofs.Finishing.{start-bounded}
-use Rattle.sorting.specs.Moved.{movedRows, changesAt}
-use Rattle.moving.specs.Answers.{lengthFault, rangeFault, movedFault, lentChanges}
+use Rattle.answers.proofs.Finishing.{start-bounded}
+use Rattle.marking.specs.Moved.{movedRows, changesAt}
+use Rattle.movefaults.specs.Answers.{lengthFault, rangeFault, movedFault, lentChanges}
 use Rattle.asking.specs.Jobs.{sheetFault}
 use Rattle.asking.proofs.Jobs.{sheet-fault}
-use Rattle.listing.specs.Lines.{wordLines, wordsOf}
+use Rattle.wordlines.specs.Lines.{wordLines, wordsOf}
 
 module _ (rule : Rule) (source : SplitMix64) (matrix : List Float) (m n : ℕ) (w : List Float) (output numbers indices : ℕ) (doubles : Doubles w)
     (fine : jobFault rule (source .edition) matrix m n w output numbers indices ≡ 0) where

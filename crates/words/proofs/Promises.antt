@@ -16,20 +16,20 @@ use Rattle.weights.specs.Weights.{normalized}
 use Rattle.fields.specs.Texts.{noteText}
 use Rattle.fields.proofs.Widths.{width-most}
 use Rattle.fields.proofs.Puts.{length-note}
-use Rattle.sparsification.specs.Answers.{returned}
+use Rattle.answers.specs.Answers.{returned}
 use Rattle.head.specs.declared.Head.{Head}
 use Rattle.head.specs.FirstLine.{headOf}
 use Rattle.form.specs.Form.{wrongLine}
 use Rattle.form.specs.Reading.{weightsOf, matrixOf}
 use Rattle.form.proofs.LongText.{long-text-is-wrong, first-bytes-same-line}
-use Rattle.salvaging.specs.Saved.{Laid}
+use Rattle.keeping.specs.Saved.{Laid}
 use Rattle.answering.specs.Words.{badWord}
 use Rattle.asking.specs.Jobs.{sheetFault, jobText, sourceOf}
 use Rattle.sheet.specs.Answer.{sheetAnswer}
 use Rattle.sheet.proofs.Whole.{sizes-of, length-job}
-use Rattle.listing.specs.Lines.{wordsOf}
+use Rattle.wordlines.specs.Lines.{wordsOf}
 use Rattle.words.specs.Words.{movedText, movedAnswer}
-use Rattle.listing.proofs.Listing.{shorter, length-words}
+use Rattle.wordlines.proofs.Listing.{shorter, length-words}
 
 -- a text that is laid in a buffer ends within it
 pub stays-within : (t answer : List ℕ) (r : ℕ) (answer' : List ℕ) → Laid t answer r answer' → length answer' ≡ length answer → r ≤ length answer'

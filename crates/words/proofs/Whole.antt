@@ -14,19 +14,19 @@ use Rattle.draw.specs.declared.SplitMix64.{SplitMix64}
 use Rattle.weights.specs.Weights.{normalized}
 use Rattle.rules.specs.declared.Rule.{Rule}
 use Rattle.fields.specs.Steps.{WroteOn}
-use Rattle.sparsification.specs.declared.Answer.{Answer}
+use Rattle.answers.specs.declared.Answer.{Answer}
 use Rattle.faults.specs.Faults.{editionFault, jobFault}
-use Rattle.sparsification.specs.Answers.{refusal, answerOf, returned, Thinned}
-use Rattle.salvaging.specs.Saved.{Laid}
+use Rattle.answers.specs.Answers.{refusal, answerOf, returned, Thinned}
+use Rattle.keeping.specs.Saved.{Laid}
 use Rattle.answering.specs.Answer.{answerText}
 use Rattle.asking.specs.Jobs.{sheetFault, jobText}
 use Rattle.answering.specs.Steps.{Wrote}
 use Rattle.answering.proofs.Puts.{front-more}
 use Rattle.asking.proofs.Jobs.{sheet-fault, job-wrote}
 use Rattle.answering.proofs.Lines.{length-answer}
-use Rattle.listing.specs.Lines.{wordsOf}
+use Rattle.wordlines.specs.Lines.{wordsOf}
 use Rattle.words.specs.Words.{movedText}
-use Rattle.listing.proofs.Listing.{length-words}
+use Rattle.wordlines.proofs.Listing.{length-words}
 
 -- a job that is refused has no words, and one that is accepted those from the normalized weights to the ones returned
 module _ (rule : Rule) (source : SplitMix64) (matrix : List Float) (m n : ℕ) (w : List Float) where

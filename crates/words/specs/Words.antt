@@ -9,13 +9,13 @@ use Rattle.draw.specs.declared.SplitMix64.{SplitMix64}
 use Rattle.fields.specs.Texts.{noteText}
 use Rattle.weights.specs.Weights.{normalized}
 use Rattle.rules.specs.declared.Rule.{Rule}
-use Rattle.sparsification.specs.Answers.{returned}
+use Rattle.answers.specs.Answers.{returned}
 use Rattle.head.specs.FirstLine.{headOf}
 use Rattle.form.specs.Form.{wrongLine}
 use Rattle.form.specs.Reading.{weightsOf, matrixOf}
 use Rattle.answering.specs.Words.{badWord}
 use Rattle.asking.specs.Jobs.{sheetFault, jobText, sourceOf}
-use Rattle.listing.specs.Lines.{wordsOf}
+use Rattle.wordlines.specs.Lines.{wordsOf}
 
 -- the text that answers a job: that of `thin`, and where the job is accepted the words that moved from the normalized weights to those
 -- returned

@@ -1,13 +1,13 @@
 // Which word moved, of a sheet: from the bytes of a job to the bytes of its answer with a line for each word behind it.
 use answering::put_answer;
-use fields::copy_bytes;
-use fields::put_note;
-use form::read_matrix;
-use form::read_weights;
-use form::wrong_line;
+use contents::read_matrix;
+use contents::read_weights;
 use head::Head;
 use head::head_of;
+use lines::wrong_line;
 use listing::put_moves;
+use putting::copy_bytes;
+use putting::put_note;
 use rules::Rule;
 use sparsification::Job;
 use sparsification::thin;
@@ -17,7 +17,7 @@ ghost use lib.ListN.{length};
 ghost use Rattle.draw.specs.SplitMix.{seeded};
 ghost use Rattle.faults.specs.Faults.{editionFault};
 ghost use Rattle.form.specs.Reading.{weightsOf, matrixOf};
-ghost use Rattle.salvaging.specs.Saved.{Laid};
+ghost use Rattle.keeping.specs.Saved.{Laid};
 ghost use Rattle.answering.specs.Steps.{Wrote};
 ghost use Rattle.asking.specs.Jobs.{sourceOf};
 ghost use Rattle.words.specs.Words.{movedText, movedAnswer};

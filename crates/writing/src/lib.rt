@@ -1,7 +1,7 @@
 // The writer of sheets: doubles go in as their bits, so that every NaN keeps its pattern.
 use body::put_columns;
-use fields::copy_bytes;
 use opening::put_head;
+use putting::copy_bytes;
 ghost use mathlib.Core.Path.{_≡_};
 ghost use Prim.Native.Nat.{_*_, _≤_};
 ghost use lib.ListN.{length};

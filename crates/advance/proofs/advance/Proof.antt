@@ -1,6 +1,6 @@
 -- `advance::advance` meets its contract: a law for each way out, a step that is not finite and one that is made.
 use borrow.Author.Tests.{not-true, not-false}
-use Rattle.entries.specs.Entries.{entryOf}
+use Rattle.chosen.specs.Entries.{entryOf}
 use Rattle.advance.proofs.Advancing.{no-way, goes-along}
 use borrow.Author.Needs.{needs}
 use Prim.Native.Nat.{_+_, _-_}

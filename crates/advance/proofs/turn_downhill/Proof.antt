@@ -1,5 +1,5 @@
 -- `advance::turn_downhill` meets its contract: the law `downhill`, at what its calls ensure.
-use Rattle.entries.specs.Entries.{entryOf}
+use Rattle.chosen.specs.Entries.{entryOf}
 use Rattle.seq.proofs.Parts.{length-part}
 use Rattle.advance.proofs.Advancing.{downhill}
 use borrow.Author.Needs.{needs}

@@ -4,7 +4,7 @@ use mathlib.Core.Path.{sym, _∙_}
 use native.Mathlib.Omega.{arith}
 use lib.Seq.{length-take-le}
 use Rattle.draw.specs.SplitMix.{seeded}
-use Rattle.ballots.proofs.Outcomes.{granted, bits-refused, bits-thinned}
+use Rattle.bitfaults.proofs.Outcomes.{granted, bits-refused, bits-thinned}
 use Rattle.ballots.proofs.thin_bits.Statement.{statement}
 use Rattle.ballots.proofs.thin_bits.Tie as tie
 

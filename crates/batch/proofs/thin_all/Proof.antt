@@ -1,6 +1,6 @@
 -- `batch::thin_all` meets its contract: the number of the call as a whole is tested, and the doubles are lent with no bits beside them.
 use borrow.Author.Needs.{needs}
-use Rattle.batch.proofs.Testing.{tested-doubles}
+use Rattle.items.proofs.Testing.{tested-doubles}
 use Rattle.batch.proofs.thin_all.Statement.{statement}
 use Rattle.batch.proofs.thin_all.Tie as tie
 

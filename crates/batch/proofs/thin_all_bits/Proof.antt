@@ -1,6 +1,6 @@
 -- `batch::thin_all_bits` meets its contract: the number of the call as a whole is tested, and the bits are lent with no doubles beside them.
 use borrow.Author.Needs.{needs}
-use Rattle.batch.proofs.Testing.{tested-bits, done-bits}
+use Rattle.items.proofs.Testing.{tested-bits, done-bits}
 use Rattle.batch.proofs.thin_all_bits.Statement.{statement}
 use Rattle.batch.proofs.thin_all_bits.Tie as tie
 

@@ -3,9 +3,9 @@ use borrow.Author.Needs.{needs}
 use mathlib.Core.Path.{sym, _∙_}
 use native.Mathlib.Omega.{arith}
 use lib.Seq.{length-take-le}
-use Rattle.sparsification.proofs.Finishing.{thinned-refused}
-use Rattle.batch.specs.Lent.{lentAs}
-use Rattle.batch.proofs.Lending.{item-number, granted, item-thinned}
+use Rattle.answers.proofs.Finishing.{thinned-refused}
+use Rattle.items.specs.Lent.{lentAs}
+use Rattle.items.proofs.Lending.{item-number, granted, item-thinned}
 use Rattle.batch.proofs.thin_item.Statement.{statement}
 use Rattle.batch.proofs.thin_item.Tie as tie
 

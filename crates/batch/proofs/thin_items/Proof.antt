@@ -3,10 +3,10 @@ use borrow.Author.Needs.{needs}
 use Prim.Native.Nat.{_-_, _*_}
 use mathlib.Core.Path.{refl}
 use native.Mathlib.Omega.{arith}
-use Rattle.batch.specs.Items.{listed}
-use Rattle.batch.specs.Lent.{lentAs}
-use Rattle.batch.proofs.Turns.{Called, called-of, Upto, weights-inside, output-inside, near, upto-none, floats-long, words-long, output-kept}
-use Rattle.batch.proofs.Turns.{parts-sized, span, upto-more, upto-all}
+use Rattle.items.specs.Items.{listed}
+use Rattle.items.specs.Lent.{lentAs}
+use Rattle.items.proofs.Turns.{Called, called-of, Upto, weights-inside, output-inside, near, upto-none, floats-long, words-long, output-kept}
+use Rattle.items.proofs.Turns.{parts-sized, span, upto-more, upto-all}
 use Rattle.batch.proofs.thin_items.Statement.{statement}
 use Rattle.batch.proofs.thin_items.Tie as tie
 

@@ -1,8 +1,8 @@
 -- `batch::thin_tested` meets its contract: a fault of the whole call is refused, and else the scratch is wiped and every item thinned.
 use borrow.Author.Needs.{needs}
-use Rattle.batch.specs.Items.{listed}
-use Rattle.batch.specs.Lent.{lentAs}
-use Rattle.batch.proofs.Closing.{all-refused, wiped, all-done}
+use Rattle.items.specs.Items.{listed}
+use Rattle.items.specs.Lent.{lentAs}
+use Rattle.items.proofs.Closing.{all-refused, wiped, all-done}
 use Rattle.batch.proofs.thin_tested.Statement.{statement}
 use Rattle.batch.proofs.thin_tested.Tie as tie
 

@@ -1,5 +1,5 @@
 -- `begin::begin` meets its contract: the rows that `first_rows` leaves are those most at risk, and `block_first` blocks them.
-use Rattle.entries.specs.Entries.{entryOf}
+use Rattle.chosen.specs.Entries.{entryOf}
 use lib.Seq.{length-take-le}
 use Rattle.seq.specs.Lists.{repeated}
 use Rattle.begin.proofs.Starting.{pushed-fits, pushed-long, normed-long, first-rows-below, begun-is}

@@ -1,7 +1,7 @@
 -- `begin::block_first` meets its contract: after k turns the first k rows are blocked.
-use Rattle.freeze.proofs.Scratch.{rest-room}
-use Rattle.freeze.proofs.Freezing.{chosen-own}
-use Rattle.entries.specs.Entries.{entryOf}
+use Rattle.blocking.proofs.Scratch.{rest-room}
+use Rattle.blocking.proofs.Freezing.{chosen-own}
+use Rattle.chosen.specs.Entries.{entryOf}
 use Rattle.begin.proofs.Starting.{Blocking, blocking-start, blocking-turn, blocking-end}
 use borrow.Author.Needs.{needs}
 use Prim.Native.Nat.{_-_}

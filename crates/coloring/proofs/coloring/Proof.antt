@@ -1,6 +1,6 @@
 -- `coloring::coloring` meets its contract: the walk and local search, on the first rows of the scratch.
-use Rattle.entries.specs.Entries.{entryOf}
-use Rattle.coloring.proofs.Walks.{colors}
+use Rattle.chosen.specs.Entries.{entryOf}
+use Rattle.colored.proofs.Walks.{colors}
 use lib.Seq.{length-take-le}
 use borrow.Author.Needs.{needs}
 use mathlib.Core.Path.{_≡_, refl, sym, _∙_}

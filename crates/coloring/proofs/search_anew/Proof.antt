@@ -1,6 +1,6 @@
 -- `coloring::search_anew` meets its contract: local search from the product that was just made.
-use Rattle.entries.specs.Entries.{entryOf}
-use Rattle.search.specs.Search.{searched}
+use Rattle.chosen.specs.Entries.{entryOf}
+use Rattle.flipping.specs.Search.{searched}
 use borrow.Author.Needs.{needs}
 use mathlib.Core.Path.{ap, _∙_}
 use lib.ListN.{length}

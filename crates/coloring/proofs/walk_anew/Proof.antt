@@ -1,6 +1,6 @@
 -- `coloring::walk_anew` meets its contract: what is filled anew is where the walk starts.
 use lib.Seq.{length-take-le, length-front}
-use Rattle.coloring.proofs.Walks.{roomy-still, fresh-is}
+use Rattle.colored.proofs.Walks.{roomy-still, fresh-is}
 use borrow.Author.Needs.{needs}
 use mathlib.Core.Path.{refl, sym}
 use native.Mathlib.Omega.{arith}

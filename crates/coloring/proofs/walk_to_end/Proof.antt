@@ -1,11 +1,11 @@
 -- `coloring::walk_to_end` meets its contract: what is left of the walk stays the same from phase to phase, and each phase leaves fewer coordinates free.
 use Rattle.seq.specs.Sums.{plusZero}
-use Rattle.entries.specs.Entries.{entryOf}
-use Rattle.walk.specs.Walk.{freeOnes}
-use Rattle.freeze.specs.Held.{Roomy}
-use Rattle.coloring.specs.Coloring.{walked}
-use Rattle.phasing.specs.Phasing.{between}
-use Rattle.coloring.proofs.Walks.{Rooms, onward, walk-begun, walk-falls, walk-few, walk-turn, walk-over, roomy-still}
+use Rattle.chosen.specs.Entries.{entryOf}
+use Rattle.walked.specs.Walk.{freeOnes}
+use Rattle.blocking.specs.Held.{Roomy}
+use Rattle.colored.specs.Coloring.{walked}
+use Rattle.phased.specs.Phasing.{between}
+use Rattle.colored.proofs.Walks.{Rooms, onward, walk-begun, walk-falls, walk-few, walk-turn, walk-over, roomy-still}
 use Rattle.seq.specs.Marks.{isSet}
 use Rattle.seq.proofs.Keeping.{count-short}
 use borrow.Author.Needs.{needs}

@@ -1,9 +1,9 @@
 -- `discrepancy::color_all` meets its contract: the columns in order, scaled by 1.0, are those of the matrix (`OwnColumns`), and the colouring reads no others.
-use Rattle.discrepancy.proofs.Fronts.{front-few, filled-back, filled-long}
+use Rattle.colorfaults.proofs.Fronts.{front-few, filled-back, filled-long}
 use lib.Seq.{length-take-le}
-use Rattle.discrepancy.proofs.OwnColumns.{own-asked, own-left}
+use Rattle.colorfaults.proofs.OwnColumns.{own-asked, own-left}
 use Rattle.ieee.specs.Constants.{one}
-use Rattle.coloring.specs.Fresh.{ColoredAs}
+use Rattle.colored.specs.Fresh.{ColoredAs}
 use borrow.Author.Needs.{needs}
 use Prim.Native.Nat.{ℕ}
 use mathlib.Core.Path.{sym, subst}

@@ -1,9 +1,9 @@
 -- `discrepancy::discrepancy_coloring` meets its contract: a refusal changes nothing, and else the arguments are `Accepted` and each call leaves its part
 -- of the outcome.
 use lib.Seq.{length-take-le}
-use Rattle.discrepancy.proofs.Accepted.{accepted}
-use Rattle.discrepancy.proofs.Fronts.{front-back, back-long}
-use Rattle.discrepancy.proofs.Outcomes.{refused, colours-at, coloured}
+use Rattle.colorfaults.proofs.Accepted.{accepted}
+use Rattle.colorfaults.proofs.Fronts.{front-back, back-long}
+use Rattle.colorfaults.proofs.Outcomes.{refused, colours-at, coloured}
 use borrow.Author.Needs.{needs}
 use mathlib.Core.Path.{sym, _∙_}
 use mathlib.Core.List.{List}

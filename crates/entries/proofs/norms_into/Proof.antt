@@ -8,9 +8,9 @@ use Rattle.seq.specs.Lists.{repeated}
 use Rattle.seq.specs.Sums.{sumTo, plusZero, product}
 use Rattle.limits.proofs.ReadsAs.{no-bits}
 use Rattle.linear.specs.Vectors.{dotOf}
-use Rattle.entries.specs.Entries.{entryOf}
-use Rattle.entries.specs.ChosenColumns.{Chosen}
-use Rattle.entries.specs.Rows.{rowNorms}
+use Rattle.chosen.specs.Entries.{entryOf}
+use Rattle.chosen.specs.ChosenColumns.{Chosen}
+use Rattle.chosen.specs.Rows.{rowNorms}
 use Rattle.entries.proofs.Reading.{same-norms}
 use Rattle.entries.proofs.norms_into.Statement.{statement}
 use Rattle.entries.proofs.norms_into.Tie as tie

@@ -11,8 +11,8 @@ use Rattle.seq.specs.Lists.{tabulate}
 use Rattle.seq.specs.Sums.{sumFrom, plusZero, at}
 use Rattle.columns.specs.Kernels.{plusSquares}
 use Rattle.reading.proofs.Lent.{doubles-are}
-use Rattle.entries.specs.Entries.{entryOf}
-use Rattle.entries.specs.Rows.{rowNorms}
+use Rattle.chosen.specs.Entries.{entryOf}
+use Rattle.chosen.specs.Rows.{rowNorms}
 use Rattle.entries.proofs.Reading.{one-more}
 use Rattle.entries.proofs.norms_of_doubles.Statement.{statement}
 use Rattle.entries.proofs.norms_of_doubles.Tie as tie

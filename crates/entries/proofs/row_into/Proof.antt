@@ -4,7 +4,7 @@ use Prim.Native.Nat.{_-_}
 use native.Mathlib.Omega.{arith}
 use lib.ListN.{length}
 use Rattle.seq.proofs.Filling.{Filled, start, turn, whole}
-use Rattle.entries.specs.Entries.{entryOf}
+use Rattle.chosen.specs.Entries.{entryOf}
 use Rattle.entries.proofs.row_into.Statement.{statement}
 use Rattle.entries.proofs.row_into.Tie as tie
 

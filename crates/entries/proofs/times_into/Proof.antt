@@ -6,9 +6,9 @@ use mathlib.Core.Path.{_≡_, refl, sym, _∙_}
 use native.Mathlib.Omega.{arith}
 use lib.ListN.{length}
 use Rattle.seq.specs.Sums.{sumFrom, plusZero}
-use Rattle.entries.specs.Entries.{entryOf}
-use Rattle.entries.specs.Rows.{times}
-use Rattle.entries.proofs.Skipping.{times-passed, one-added, two-added}
+use Rattle.chosen.specs.Entries.{entryOf}
+use Rattle.chosen.specs.Rows.{times}
+use Rattle.chosen.proofs.Skipping.{times-passed, one-added, two-added}
 use Rattle.entries.proofs.times_into.Statement.{statement}
 use Rattle.entries.proofs.times_into.Tie as tie
 

@@ -1,10 +1,10 @@
 -- `freeze::freeze` meets its contract: after p turns the scratch holds the walk of which the coordinates below p were looked at.
-use Rattle.freeze.specs.Freeze.{freezeTo}
+use Rattle.blocking.specs.Freeze.{freezeTo}
 use Rattle.seq.specs.Sums.{plusZero}
-use Rattle.freeze.specs.Held.{held}
-use Rattle.freeze.proofs.Freezing.{freezes-near, freezes-far, freezes-not, Freezing, freezing-start, freezing-one, freezing-none}
+use Rattle.blocking.specs.Held.{held}
+use Rattle.blocking.proofs.Freezing.{freezes-near, freezes-far, freezes-not, Freezing, freezing-start, freezing-one, freezing-none}
 use mathlib.Core.Path.{_≡_, ap, _∙_}
-use Rattle.entries.specs.Entries.{entryOf}
+use Rattle.chosen.specs.Entries.{entryOf}
 use borrow.Author.Needs.{needs}
 use Prim.Native.Nat.{_-_}
 use mathlib.Core.Logic.{⊎-elim}

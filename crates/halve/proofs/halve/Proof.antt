@@ -4,9 +4,9 @@ use mathlib.Core.Path.{sym, _∙_}
 use native.Mathlib.Omega.{arith}
 use lib.Seq.{length-take-le}
 use Rattle.limits.specs.Reading.{readOf}
-use Rattle.halve.specs.Handed.{halvesOf}
-use Rattle.halve.proofs.Columns.{halve-none, halve-some}
-use Rattle.halve.proofs.Calls.{lent}
+use Rattle.halved.specs.Handed.{halvesOf}
+use Rattle.halved.proofs.Columns.{halve-none, halve-some}
+use Rattle.halved.proofs.Calls.{lent}
 use Rattle.halve.proofs.halve.Statement.{statement}
 use Rattle.halve.proofs.halve.Tie as tie
 

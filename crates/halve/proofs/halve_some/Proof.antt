@@ -2,8 +2,8 @@
 use borrow.Author.Needs.{needs}
 use mathlib.Core.Path.{_∙_}
 use native.Mathlib.Omega.{arith}
-use Rattle.halve.proofs.Columns.{column-inside, halved-by, directions-fit, sweeps-fit}
-use Rattle.halve.proofs.FiniteEntries.{finite-entry}
+use Rattle.halved.proofs.Columns.{column-inside, halved-by, directions-fit, sweeps-fit}
+use Rattle.halved.proofs.FiniteEntries.{finite-entry}
 use Rattle.halve.proofs.halve_some.Statement.{statement}
 use Rattle.halve.proofs.halve_some.Tie as tie
 

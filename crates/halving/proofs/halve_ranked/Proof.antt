@@ -1,7 +1,7 @@
 -- `halving::halve_ranked` meets its contract: what follows the kept ones in the ranking is the rest, and it is not empty.
 use borrow.Author.Needs.{needs}
 use native.Mathlib.Omega.{arith}
-use Rattle.halving.proofs.Calls.{support-below, rest-lent, rest-lent-some, kept-within}
+use Rattle.passed.proofs.Calls.{support-below, rest-lent, rest-lent-some, kept-within}
 use Rattle.halving.proofs.halve_ranked.Statement.{statement}
 use Rattle.halving.proofs.halve_ranked.Tie as tie
 

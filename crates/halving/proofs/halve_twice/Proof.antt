@@ -2,9 +2,9 @@
 use borrow.Author.Needs.{needs}
 use native.Mathlib.Omega.{arith}
 use Rattle.limits.specs.Reading.{readOf}
-use Rattle.halve.proofs.Calls.{ready-still}
-use Rattle.halve.proofs.Adding.{one-countable, countable-once}
-use Rattle.halving.proofs.Calls.{rest-below, rest-short, pass-holds}
+use Rattle.halved.proofs.Calls.{ready-still}
+use Rattle.halved.proofs.Adding.{one-countable, countable-once}
+use Rattle.passed.proofs.Calls.{rest-below, rest-short, pass-holds}
 use Rattle.halving.proofs.halve_twice.Statement.{statement}
 use Rattle.halving.proofs.halve_twice.Tie as tie
 

@@ -2,7 +2,7 @@
 use lib.ListN.{replicate}
 use lib.Seq.{length-take-le}
 use Rattle.seq.specs.Sums.{plusZero}
-use Rattle.listing.proofs.Listing.{words-none, words-some, back-there, back-whole, back-read}
+use Rattle.wordlines.proofs.Listing.{words-none, words-some, back-there, back-whole, back-read}
 use borrow.Author.Needs.{needs}
 use Prim.Native.Nat.{_-_}
 use mathlib.Core.Path.{sym, _∙_}
@@ -12,7 +12,7 @@ use Rattle.listing.proofs.put_changes.Tie as tie
 use Rattle.listing.proofs.put_changes.Reads as reads
 use Rattle.listing.proofs.put_changes.Lts as lts
 use Rattle.moving.proofs.moved.Reads as moved-reads
-use Rattle.listing.proofs.put_lines.Reads as put-lines-reads
+use Rattle.wordlines.proofs.put_lines.Reads as put-lines-reads
 
 array-borrow-prefix-rows : tie.Need-array-borrow-prefix-rows
 array-borrow-prefix-rows c = search needs

@@ -4,7 +4,7 @@ use lib.Seq.{length-take-le}
 use lib.Ieee.{Float}
 use Rattle.weights.specs.Weights.{normalized}
 use Rattle.seq.specs.Sums.{plusZero}
-use Rattle.listing.proofs.Listing.{words-from, back-there, back-whole, back-read}
+use Rattle.wordlines.proofs.Listing.{words-from, back-there, back-whole, back-read}
 use borrow.Author.Needs.{needs}
 use Prim.Native.Nat.{_-_, _≤_}
 use mathlib.Core.Path.{sym, ap, _∙_}

@@ -1,7 +1,7 @@
 -- `moving::list_changes` meets its contract: the keys are the changes, none of them a NaN.
 use mathlib.Core.Path.{subst}
 use Rattle.limits.specs.Matrix.{columnsOf}
-use Rattle.sorting.specs.Moved.{Numbers, Working, Moved}
+use Rattle.marking.specs.Moved.{Numbers, Working, Moved}
 use Rattle.moving.proofs.Numbers.{changes-numbers}
 use Rattle.moving.proofs.Listing.{filled}
 use borrow.Author.Needs.{needs}

@@ -2,8 +2,8 @@
 use lib.Seq.{length-take-le}
 use Rattle.seq.specs.Keep.{keep}
 use Rattle.seq.specs.Marks.{isSet}
-use Rattle.entries.specs.Entries.{entryOf}
-use Rattle.phasing.proofs.Inside.{places-below, places-few, phase-goes, phase-rounds}
+use Rattle.chosen.specs.Entries.{entryOf}
+use Rattle.phased.proofs.Inside.{places-below, places-few, phase-goes, phase-rounds}
 use borrow.Author.Needs.{needs}
 use mathlib.Core.Path.{sym, ap, _∙_}
 use native.Mathlib.Omega.{arith}

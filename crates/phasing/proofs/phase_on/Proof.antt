@@ -1,6 +1,6 @@
 -- `phasing::phase_on` meets its contract: what is chosen is a matrix of its own that the phase runs on, and what the phase leaves is put back.
-use Rattle.phasing.proofs.Inside.{chosen-part, roomy-part, phased-at}
-use Rattle.freeze.specs.Held.{axIn}
+use Rattle.phased.proofs.Inside.{chosen-part, roomy-part, phased-at}
+use Rattle.blocking.specs.Held.{axIn}
 use borrow.Author.Needs.{needs}
 use Prim.Native.Nat.{ℕ}
 use mathlib.Core.Path.{refl, sym, ap, _∙_}

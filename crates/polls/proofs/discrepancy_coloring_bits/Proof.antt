@@ -2,11 +2,11 @@
 -- of the outcome.
 use lib.Seq.{length-take-le}
 use Rattle.seq.specs.Keep.{allTo}
-use Rattle.polls.proofs.Accepted.{accepted}
-use Rattle.discrepancy.proofs.Fronts.{front-back, back-long}
-use Rattle.discrepancy.proofs.Outcomes.{colours-at}
+use Rattle.pollfaults.proofs.Accepted.{accepted}
+use Rattle.colorfaults.proofs.Fronts.{front-back, back-long}
+use Rattle.colorfaults.proofs.Outcomes.{colours-at}
 use Rattle.limits.proofs.ReadsAs.{bits-whole}
-use Rattle.polls.proofs.Outcomes.{refused, coloured}
+use Rattle.pollfaults.proofs.Outcomes.{refused, coloured}
 use borrow.Author.Needs.{needs}
 use mathlib.Core.Path.{refl, sym, _∙_}
 use mathlib.Core.List.{List}

@@ -1,6 +1,6 @@
 -- `polls::max_margin_change_bits` meets its contract: what is not refused has the sizes that the change asks for.
 use borrow.Author.Tests.{not-true, not-false}
-use Rattle.polls.proofs.Refusals.{poll-sizes, poll-asked, change-refused, change-spare, change-taken}
+use Rattle.pollfaults.proofs.Refusals.{poll-sizes, poll-asked, change-refused, change-spare, change-taken}
 use borrow.Author.Needs.{needs}
 use mathlib.Core.Path.{sym, _∙_}
 use Rattle.polls.proofs.max_margin_change_bits.Statement.{statement}

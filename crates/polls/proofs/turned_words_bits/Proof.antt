@@ -1,5 +1,5 @@
 -- `polls::turned_words_bits` meets its contract: what is not refused has the sizes that the count asks for.
-use Rattle.polls.proofs.Refusals.{poll-asked, turned-sizes, turned-refused, turned-taken}
+use Rattle.pollfaults.proofs.Refusals.{poll-asked, turned-sizes, turned-refused, turned-taken}
 use borrow.Author.Needs.{needs}
 use mathlib.Core.Path.{sym, _∙_}
 use Rattle.polls.proofs.turned_words_bits.Statement.{statement}

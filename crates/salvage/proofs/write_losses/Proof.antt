@@ -5,8 +5,8 @@ use mathlib.Core.Path.{_≡_, sym}
 use native.Mathlib.Omega.{arith}
 use lib.Seq.{length-take-le}
 use lib.ListN.{length}
-use Rattle.salvaging.specs.Steps.{keptIn}
-use Rattle.salvaging.proofs.Losses.{lost-most}
+use Rattle.keeping.specs.Steps.{keptIn}
+use Rattle.keeping.proofs.Losses.{lost-most}
 use Rattle.salvage.proofs.write_losses.Statement.{statement}
 use Rattle.salvage.proofs.write_losses.Tie as tie
 

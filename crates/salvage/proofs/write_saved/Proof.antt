@@ -5,8 +5,8 @@ use mathlib.Core.Path.{sym}
 use native.Mathlib.Omega.{arith}
 use lib.Seq.{length-take-le}
 use Rattle.gathering.proofs.Bytewise.{reach}
-use Rattle.salvaging.proofs.Fronts.{first-stands}
-use Rattle.salvaging.proofs.Answers.{front-room, judged-most}
+use Rattle.keeping.proofs.Fronts.{first-stands}
+use Rattle.keeping.proofs.Answers.{front-room, judged-most}
 use Rattle.salvage.proofs.write_saved.Statement.{statement}
 use Rattle.salvage.proofs.write_saved.Tie as tie
 

@@ -2,11 +2,11 @@
 use borrow.Author.Tests.{not-true, not-false, leb-true}
 use lib.ListN.{length}
 use lib.Seq.{length-take-le}
-use Rattle.salvaging.specs.Saved.{lostText}
-use Rattle.salvaging.specs.Steps.{keptIn, frontIn, judgedIn}
+use Rattle.keeping.specs.Saved.{lostText}
+use Rattle.keeping.specs.Steps.{keptIn, frontIn, judgedIn}
 use Rattle.gathering.proofs.Bytewise.{reach}
-use Rattle.salvaging.proofs.Fronts.{first-stands}
-use Rattle.salvaging.proofs.Answers.{front-room, judged-most, front-too-long, losses-too-long, copied-long, all-laid}
+use Rattle.keeping.proofs.Fronts.{first-stands}
+use Rattle.keeping.proofs.Answers.{front-room, judged-most, front-too-long, losses-too-long, copied-long, all-laid}
 use borrow.Author.Needs.{needs}
 use Prim.Native.Nat.{_-_}
 use mathlib.Core.Path.{sym, _∙_}

@@ -1,5 +1,5 @@
 -- `salvaging::is_kept` meets its contract: a mark for each of the m lines, and none beyond them.
-use Rattle.salvaging.proofs.Losses.{marked-is, beyond-is}
+use Rattle.keeping.proofs.Losses.{marked-is, beyond-is}
 use borrow.Author.Needs.{needs}
 use Rattle.salvaging.proofs.is_kept.Statement.{statement}
 use Rattle.salvaging.proofs.is_kept.Tie as tie

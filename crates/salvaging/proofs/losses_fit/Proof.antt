@@ -1,6 +1,6 @@
 -- `salvaging::losses_fit` meets its contract. The loop's invariant: what is left of the room behind the lines of the first i.
-use Rattle.salvaging.specs.Steps.{keptIn}
-use Rattle.salvaging.proofs.Losses.{Leaving, leaving-start, leaving-turn, leaving-short, leaving-whole}
+use Rattle.keeping.specs.Steps.{keptIn}
+use Rattle.keeping.proofs.Losses.{Leaving, leaving-start, leaving-turn, leaving-short, leaving-whole}
 use borrow.Author.Needs.{needs}
 use Prim.Native.Nat.{_-_}
 use native.Mathlib.Omega.{arith}

@@ -1,6 +1,6 @@
 -- `salvaging::lost_long` meets its contract: by whether the line is kept.
 use Rattle.fields.proofs.Widths.{width-most}
-use Rattle.salvaging.proofs.Losses.{lost-length, kept-length}
+use Rattle.keeping.proofs.Losses.{lost-length, kept-length}
 use borrow.Author.Needs.{needs}
 use native.Mathlib.Omega.{arith}
 use Rattle.salvaging.proofs.lost_long.Statement.{statement}

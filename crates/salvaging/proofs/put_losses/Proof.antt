@@ -1,6 +1,6 @@
 -- `salvaging::put_losses` meets its contract. The loop's invariant: the lines of the lost ones of the first i are put.
-use Rattle.salvaging.specs.Steps.{keptIn}
-use Rattle.salvaging.proofs.Losses.{Losing, losing-start, losing-room, losing-turn, losing-whole}
+use Rattle.keeping.specs.Steps.{keptIn}
+use Rattle.keeping.proofs.Losses.{Losing, losing-start, losing-room, losing-turn, losing-whole}
 use borrow.Author.Needs.{needs}
 use Prim.Native.Nat.{_-_}
 use native.Mathlib.Omega.{arith}

@@ -1,5 +1,5 @@
 -- `salvaging::put_lost` meets its contract: by whether the line is kept.
-use Rattle.salvaging.proofs.Losses.{lost-length, kept-wrote, lost-wrote}
+use Rattle.keeping.proofs.Losses.{lost-length, kept-wrote, lost-wrote}
 use borrow.Author.Needs.{needs}
 use native.Mathlib.Omega.{arith}
 use Rattle.salvaging.proofs.put_lost.Statement.{statement}

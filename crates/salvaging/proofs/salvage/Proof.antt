@@ -1,7 +1,7 @@
 -- `salvaging::salvage` meets its contract: the whole text is one piece.
 use Rattle.gathering.specs.Lines.{noLines, after}
 use Rattle.gathering.specs.declared.State.{State}
-use Rattle.salvaging.proofs.Answers.{holding-start, salvage-is}
+use Rattle.keeping.proofs.Answers.{holding-start, salvage-is}
 use borrow.Author.Needs.{needs}
 use mathlib.Core.Path.{ap}
 use native.Mathlib.Omega.{arith}

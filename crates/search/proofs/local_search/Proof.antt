@@ -1,8 +1,8 @@
 -- `search::local_search` meets its contract: what the remaining sweeps give stays the same from sweep to sweep, until none remains or one flips nothing.
-use Rattle.search.proofs.Flips.{search-begun, search-over}
-use Rattle.entries.specs.Entries.{entryOf}
-use Rattle.search.specs.Search.{searched}
-use Rattle.search.proofs.Flips.{remaining, search-turn, search-stop}
+use Rattle.flipping.proofs.Flips.{search-begun, search-over}
+use Rattle.chosen.specs.Entries.{entryOf}
+use Rattle.flipping.specs.Search.{searched}
+use Rattle.flipping.proofs.Flips.{remaining, search-turn, search-stop}
 use borrow.Author.Tests.{not-true, not-false}
 use borrow.Author.Needs.{needs}
 use Prim.Native.Nat.{_-_, _≤_}

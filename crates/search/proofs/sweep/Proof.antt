@@ -1,9 +1,9 @@
 -- `search::sweep` meets its contract: after j turns the columns below j were tried.
-use Rattle.entries.specs.Entries.{entryOf}
+use Rattle.chosen.specs.Entries.{entryOf}
 use mathlib.Core.Bool.{false}
-use Rattle.search.specs.Search.{sweepTo}
-use Rattle.search.specs.Searching.{searchOf}
-use Rattle.search.proofs.Flips.{sweep-turn}
+use Rattle.flipping.specs.Search.{sweepTo}
+use Rattle.flipping.specs.Searching.{searchOf}
+use Rattle.flipping.proofs.Flips.{sweep-turn}
 use borrow.Author.Needs.{needs}
 use Prim.Native.Nat.{_-_, _≤_}
 use mathlib.Core.Path.{_≡_, refl, _∙_}

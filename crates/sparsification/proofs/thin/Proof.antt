@@ -6,8 +6,8 @@ use native.Mathlib.Omega.{arith}
 use lib.ListN.{length}
 use lib.Seq.{length-take-le}
 use Rattle.draw.specs.SplitMix.{seeded}
-use Rattle.sparsification.proofs.Accepting.{accepted, values-fine}
-use Rattle.sparsification.proofs.Finishing.{thinned-refused, thinned-from, doubles-whole, ready-of}
+use Rattle.answers.proofs.Accepting.{accepted, values-fine}
+use Rattle.answers.proofs.Finishing.{thinned-refused, thinned-from, doubles-whole, ready-of}
 use Rattle.sparsification.proofs.thin.Statement.{statement}
 use Rattle.sparsification.proofs.thin.Tie as tie
 

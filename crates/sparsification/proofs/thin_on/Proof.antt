@@ -6,8 +6,8 @@ use lib.ListN.{length}
 use Rattle.seq.specs.Lists.{repeated}
 use Rattle.seq.specs.Sums.{plusZero}
 use Rattle.limits.specs.Reading.{readOf}
-use Rattle.halve.proofs.Calls.{ready-still}
-use Rattle.sparsification.proofs.Finishing.{done-from}
+use Rattle.halved.proofs.Calls.{ready-still}
+use Rattle.answers.proofs.Finishing.{done-from}
 use Rattle.sparsification.proofs.thin_on.Statement.{statement}
 use Rattle.sparsification.proofs.thin_on.Tie as tie
 

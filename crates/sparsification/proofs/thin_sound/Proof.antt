@@ -6,11 +6,11 @@ use lib.ListN.{length}
 use lib.Seq.{length-take-le}
 use Rattle.seq.specs.Sums.{plusZero}
 use Rattle.weights.specs.Weights.{normalized}
-use Rattle.halve.proofs.Calls.{ready-still}
+use Rattle.halved.proofs.Calls.{ready-still}
 use Rattle.stages.proofs.Lengths.{length-normalized}
 use Rattle.stages.proofs.Passing.{normal-start}
-use Rattle.sparsification.proofs.Accepting.{values-good}
-use Rattle.sparsification.proofs.Finishing.{start-bounded}
+use Rattle.answers.proofs.Accepting.{values-good}
+use Rattle.answers.proofs.Finishing.{start-bounded}
 use Rattle.sparsification.proofs.thin_sound.Statement.{statement}
 use Rattle.sparsification.proofs.thin_sound.Tie as tie
 

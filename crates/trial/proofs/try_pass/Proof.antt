@@ -1,8 +1,8 @@
 -- `trial::try_pass` meets its contract: each way out is one of the laws of Trying.
 use mathlib.Core.Bool.{not}
 use Rattle.limits.specs.Reading.{readOf}
-use Rattle.halve.proofs.Calls.{ready-still}
-use Rattle.trial.proofs.Trying.{lent-of, left-tried, taken-tried}
+use Rattle.halved.proofs.Calls.{ready-still}
+use Rattle.tried.proofs.Trying.{lent-of, left-tried, taken-tried}
 use borrow.Author.Needs.{needs}
 use mathlib.Core.Path.{refl, sym, ap, _∙_}
 use lib.ListN.{length}

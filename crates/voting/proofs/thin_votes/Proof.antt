@@ -7,7 +7,7 @@ use lib.ListN.{length}
 use lib.Seq.{length-take-le}
 use lib.Ieee.{Float}
 use Rattle.packing.specs.Packed.{Packed}
-use Rattle.voting.proofs.Outcomes.{called, votes-refused, values-refused, votes-packed, front-again, front-room}
+use Rattle.votefaults.proofs.Outcomes.{called, votes-refused, values-refused, votes-packed, front-again, front-room}
 use Rattle.voting.proofs.thin_votes.Statement.{statement}
 use Rattle.voting.proofs.thin_votes.Tie as tie
 

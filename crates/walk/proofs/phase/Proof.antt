@@ -1,6 +1,6 @@
 -- `walk::phase` meets its contract: `begin` leaves the start of the phase in the scratch, and `steps` goes on from it.
-use Rattle.entries.specs.Entries.{entryOf}
-use Rattle.walk.proofs.Phases.{start-room, phase-is}
+use Rattle.chosen.specs.Entries.{entryOf}
+use Rattle.walked.proofs.Phases.{start-room, phase-is}
 use borrow.Author.Needs.{needs}
 use mathlib.Core.Path.{refl, _∙_}
 use lib.ListN.{length}

@@ -1,9 +1,9 @@
 -- `walk::steps` meets its contract: what is left of the phase is the whole phase. The measure is how many coordinates are free.
 use borrow.Author.Tests.{not-true, not-false}
-use Rattle.entries.specs.Entries.{entryOf}
-use Rattle.freeze.specs.Held.{held}
-use Rattle.walk.specs.Walk.{freeOnes}
-use Rattle.walk.proofs.Phases.{Going, going-start, going-full, going-last, fewer-free, going-on}
+use Rattle.chosen.specs.Entries.{entryOf}
+use Rattle.blocking.specs.Held.{held}
+use Rattle.walked.specs.Walk.{freeOnes}
+use Rattle.walked.proofs.Phases.{Going, going-start, going-full, going-last, fewer-free, going-on}
 use borrow.Author.Needs.{needs}
 use mathlib.Core.Path.{refl, _∙_}
 use native.Mathlib.Omega.{arith}

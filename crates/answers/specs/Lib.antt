@@ -1,0 +1,3 @@
+-- What a job answers and leaves.
+pub mod Answers
+pub mod Thinning

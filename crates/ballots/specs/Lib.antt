@@ -1,3 +1,0 @@
--- Thinning from a matrix of votes: what it is refused for, and what it answers and leaves.
-pub mod Refusals
-pub mod Ballots

@@ -1,0 +1,2 @@
+-- Laws of the basis.
+pub mod Bases

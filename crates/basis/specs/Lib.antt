@@ -1,0 +1,3 @@
+-- The basis, as a list of its vectors and as a slice.
+pub mod Basis
+pub mod Held

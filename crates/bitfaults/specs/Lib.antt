@@ -1,0 +1,3 @@
+-- What a job on bits answers and leaves.
+pub mod Refusals
+pub mod Ballots

@@ -1,0 +1,3 @@
+-- What freezing and blocking do, and what is held meanwhile.
+pub mod Freeze
+pub mod Held

@@ -1,0 +1,3 @@
+-- How far margins move.
+pub mod Margins
+pub mod Largest

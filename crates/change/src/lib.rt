@@ -1,0 +1,71 @@
+// How far the margins move between two weight vectors, at the worst row.
+use ieee::abs;
+use ieee::larger;
+use rows::add_rows;
+use rows::block_length;
+use seq::clear;
+ghost use mathlib.Core.Path.{_≡_};
+ghost use Prim.Native.Nat.{_≤_, _+_, _%_};
+ghost use lib.ListN.{length};
+ghost use Rattle.seq.specs.Lists.{tabulate};
+ghost use Rattle.seq.specs.Sums.{at};
+ghost use Rattle.limits.specs.Reading.{readOf};
+ghost use Rattle.change.specs.Margins.{changeTo, maxChange};
+ghost use Rattle.rows.specs.Compared.{Compared};
+ghost use Rattle.change.specs.Largest.{maxAbsFrom};
+
+// The changes of the rows from `from` on, as many as the block holds.
+pub fn changes_into(
+    block: &mut [f64],
+    from: usize,
+    matrix: &[f64],
+    bits: &[u8],
+    n: usize,
+    before: &[f64],
+    after: &[f64],
+)
+    requires { ⌜ Compared (now matrix) (now bits) n (now before) (now after) × (from + length (now block) ≤ n) × (from % 8 ≡ 0) ⌝ }
+    ensures { λ _. ⌜ now (block .exit) ≡ tabulate (λ i. changeTo (readOf (now (matrix .entry)) (now (bits .entry)) n) (now (before .entry))
+        (now (after .entry)) (from + i) (length (now (before .entry)))) (length (now (block .entry))) ⌝ }
+{
+    clear(&mut block[..]);
+    let mut j = 0usize;
+    while j < before.len() {
+        let delta = before[j] - after[j];
+        if delta != 0.0 {
+            add_rows(&mut block[..], from, matrix, bits, n, j, delta);
+        }
+        j += 1;
+    }
+}
+
+// The largest magnitude, from what it is so far.
+fn largest_from(most: f64, block: &[f64]) -> f64
+    ensures { λ r. ⌜ r ≡ maxAbsFrom most (at (now (block .entry))) (length (now (block .entry))) ⌝ }
+{
+    let mut r = most;
+    let mut i = 0usize;
+    while i < block.len() {
+        r = larger(r, abs(block[i]));
+        i += 1;
+    }
+    r
+}
+
+// The largest change of a margin.
+pub fn change_of(matrix: &[f64], bits: &[u8], n: usize, before: &[f64], after: &[f64]) -> f64
+    requires { ⌜ Compared (now matrix) (now bits) n (now before) (now after) ⌝ }
+    ensures { λ r. ⌜ r ≡ maxChange (readOf (now (matrix .entry)) (now (bits .entry)) n) (length (now (before .entry))) n
+        (now (before .entry)) (now (after .entry)) ⌝ }
+{
+    let mut block = [0.0f64; 64];
+    let mut most = 0.0;
+    let mut from = 0usize;
+    while from < n {
+        let k = block_length(from, n);
+        changes_into(&mut block[..k], from, matrix, bits, n, before, after);
+        most = largest_from(most, &block[..k]);
+        from += k;
+    }
+    most
+}

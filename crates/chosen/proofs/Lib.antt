@@ -1,0 +1,2 @@
+-- Laws of the columns that are passed over.
+pub mod Skipping

@@ -1,0 +1,2 @@
+-- What a direct colouring answers and leaves.
+pub mod Discrepancy

@@ -1,7 +1,0 @@
--- The laws of the colouring.
-pub mod Marked
-pub mod Phases
-pub mod Colours
-pub mod Counts
-pub mod Walks
-pub mod SameColumns

@@ -1,0 +1,2 @@
+-- Laws of the guess.
+pub mod RootGuess

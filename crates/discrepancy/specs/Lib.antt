@@ -1,2 +1,0 @@
--- The public colouring.
-pub mod Discrepancy

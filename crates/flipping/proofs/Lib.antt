@@ -1,0 +1,2 @@
+-- Laws of flips.
+pub mod Flips

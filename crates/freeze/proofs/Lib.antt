@@ -1,3 +1,0 @@
--- The laws of freezing.
-pub mod Scratch
-pub mod Freezing

@@ -1,3 +1,0 @@
--- One halving.
-pub mod Halve
-pub mod Handed

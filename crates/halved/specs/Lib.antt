@@ -1,0 +1,3 @@
+-- One halving, and what its functions tell each other.
+pub mod Halve
+pub mod Handed

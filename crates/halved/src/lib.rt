@@ -1,0 +1,1 @@
+// One halving: the definitions are in specs/, the laws in proofs/. Nothing here runs.

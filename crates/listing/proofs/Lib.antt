@@ -1,2 +1,0 @@
--- Laws of the lines of the words.
-pub mod Listing

@@ -1,0 +1,2 @@
+-- Laws of the rows that were met.
+pub mod Marking

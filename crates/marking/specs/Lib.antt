@@ -1,0 +1,2 @@
+-- The list of what moved.
+pub mod Moved

@@ -1,0 +1,2 @@
+-- Laws of those tests.
+pub mod Refusals

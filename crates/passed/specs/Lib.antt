@@ -1,0 +1,3 @@
+-- One pass.
+pub mod Halving
+pub mod Alone

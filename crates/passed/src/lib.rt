@@ -1,0 +1,1 @@
+// One pass: the definitions are in specs/, the laws in proofs/. Nothing here runs.

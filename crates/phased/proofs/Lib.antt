@@ -1,0 +1,2 @@
+-- Laws of a phase on the free columns.
+pub mod Inside

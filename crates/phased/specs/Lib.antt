@@ -1,0 +1,3 @@
+-- A phase on the free columns.
+pub mod Phase
+pub mod Phasing

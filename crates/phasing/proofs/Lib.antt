@@ -1,2 +1,0 @@
--- The laws of a phase on the free columns.
-mod Inside

@@ -1,0 +1,2 @@
+-- What these calls on bits answer and leave.
+pub mod Polls

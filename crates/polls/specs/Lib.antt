@@ -1,2 +1,0 @@
--- Colouring, change and turned words from a matrix of votes.
-pub mod Polls

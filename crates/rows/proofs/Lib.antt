@@ -1,0 +1,3 @@
+-- Laws of a stretch of rows.
+pub mod Stretches
+pub mod Columns

@@ -1,0 +1,13 @@
+-- Told between functions: what the functions on blocks of rows say to each other.
+use Prim.Native.Nat.{ℕ, _+_}
+use mathlib.Core.List.{List}
+use lib.Ieee.{Float, binary64, add, mul}
+use Rattle.seq.specs.Sums.{at}
+
+-- acc + column s
+abbrev pub plusAt : List Float → Float → List Float → ℕ → Float
+plusAt column s acc i = add binary64 (at acc i) (mul binary64 (at column i) s)
+
+-- acc + the rows of column j from `from` on, times s
+abbrev pub plusRows : (ℕ → ℕ → Float) → ℕ → ℕ → Float → List Float → ℕ → Float
+plusRows matrix j from s acc i = add binary64 (at acc i) (mul binary64 (matrix j (from + i)) s)

@@ -1,0 +1,3 @@
+-- What the functions on some rows tell each other.
+pub mod Blocks
+pub mod Compared

@@ -1,0 +1,54 @@
+// Some rows of the margins at a time, column by column, so that no scratch is needed: how many, and what a column adds to them.
+use votes::add_signed;
+ghost use mathlib.Core.Path.{_≡_};
+ghost use Prim.Native.Nat.{_≤_, _+_, _%_};
+ghost use lib.ListN.{length};
+ghost use Rattle.seq.specs.Lists.{tabulate};
+ghost use Rattle.limits.specs.Reading.{readOf, Lies};
+ghost use Rattle.rows.specs.Blocks.{plusAt, plusRows};
+
+// block + s times the column's rows.
+fn add_scaled(block: &mut [f64], column: &[f64], s: f64)
+    requires { ⌜ length (now column) ≡ length (now block) ⌝ }
+    ensures { λ _. ⌜ now (block .exit) ≡ tabulate (plusAt (now (column .entry)) s (now (block .entry))) (length (now (block .entry))) ⌝ }
+{
+    let mut i = 0usize;
+    while i < block.len() {
+        block[i] = block[i] + column[i] * s;
+        i += 1;
+    }
+}
+
+// block + s times the rows of column j from `from` on, which starts a byte. The choice between doubles and bits is made here.
+pub fn add_rows(
+    block: &mut [f64],
+    from: usize,
+    matrix: &[f64],
+    bits: &[u8],
+    n: usize,
+    j: usize,
+    s: f64,
+)
+    requires { ⌜ Lies (now matrix) (now bits) n j × (from + length (now block) ≤ n) × (n ≤ 4096) × (from % 8 ≡ 0) ⌝ }
+    ensures { λ _. ⌜ now (block .exit) ≡ tabulate (plusRows (readOf (now (matrix .entry)) (now (bits .entry)) n) j from s
+        (now (block .entry))) (length (now (block .entry))) ⌝ }
+{
+    let k = block.len();
+    if bits.len() == 0 {
+        let a = j * n + from;
+        let e = a + k;
+        add_scaled(block, &matrix[a..e], s);
+    } else {
+        let a = j * ((n + 7) / 8) + from / 8;
+        let e = a + (k + 7) / 8;
+        add_signed(block, &bits[a..e], k, s);
+    }
+}
+
+// How many rows a block has that starts at `from`.
+pub fn block_length(from: usize, n: usize) -> usize
+    requires { ⌜ from ≤ n ⌝ }
+    ensures { λ r. ⌜ (from + r ≤ n) × (r ≤ 64) × (n ≤ from + 64 → from + r ≡ n) × (from + 64 ≤ n → r ≡ 64) ⌝ }
+{
+    if n - from < 64 { n - from } else { 64 }
+}

@@ -1,2 +1,0 @@
--- The laws of local search.
-pub mod Flips

@@ -1,3 +1,0 @@
--- Local search: the definition, and what its functions say to each other.
-pub mod Search
-pub mod Searching

@@ -1,3 +1,0 @@
--- The thinning: what a job answers and leaves.
-pub mod Answers
-pub mod Thinning

@@ -1,2 +1,0 @@
--- The laws of a try.
-pub mod Trying

@@ -1,0 +1,2 @@
+-- Laws of a pass that is tried.
+pub mod Trying

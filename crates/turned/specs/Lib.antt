@@ -1,0 +1,3 @@
+-- Which words turn.
+pub mod Turned
+pub mod BlocksTurned

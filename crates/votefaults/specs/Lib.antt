@@ -1,0 +1,2 @@
+-- What a call on labels and confidences means.
+pub mod Votes

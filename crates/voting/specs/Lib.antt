@@ -1,2 +1,0 @@
--- Thinning from labels and votes.
-pub mod Votes

@@ -1,0 +1,2 @@
+-- Laws of those lines.
+pub mod Listing
