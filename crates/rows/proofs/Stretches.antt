@@ -11,18 +11,19 @@ use Rattle.seq.specs.Lists.{tabulate}
 use Rattle.seq.proofs.Filling.{length-tab}
 
 -- a block that starts before the end has a row
-pub some-rows : (from r n : ℕ) → from < n → (n ≤ from + 64 → from + r ≡ n) → (from + 64 ≤ n → r ≡ 64) → 0 < r
-some-rows from r n h e k = go (decLt n (from + 64))
+pub some-rows : (from r n most : ℕ) → from < n → 0 < most → (n ≤ from + most → from + r ≡ n) → (from + most ≤ n → r ≡ most) → 0 < r
+some-rows from r n most h some e k = go (decLt n (from + most))
   where
-    go : Dec (n < from + 64) → 0 < r
+    go : Dec (n < from + most) → 0 < r
     go (yes g) = omega (arith, e (omega arith))
     go (no g) = omega (arith, k (omega arith))
 
--- a block that does not end the rows leaves the next one on a byte
-pub on-a-byte : (from r n : ℕ) → from % 8 ≡ 0 → (n ≤ from + 64 → from + r ≡ n) → (from + 64 ≤ n → r ≡ 64) → from + r < n → (from + r) % 8 ≡ 0
-on-a-byte from r n b e k h = go (decLt n (from + 64))
+-- a block that does not end the rows leaves the next one on a byte, as its own size does
+pub on-a-byte : (from r n most : ℕ) → from % 8 ≡ 0 → most % 8 ≡ 0 → (n ≤ from + most → from + r ≡ n) → (from + most ≤ n → r ≡ most) → from + r < n
+    → (from + r) % 8 ≡ 0
+on-a-byte from r n most b d e k h = go (decLt n (from + most))
   where
-    go : Dec (n < from + 64) → (from + r) % 8 ≡ 0
+    go : Dec (n < from + most) → (from + r) % 8 ≡ 0
     go (yes g) = absurd (omega (arith, e (omega arith)))
     go (no g) = omega (arith, k (omega arith))
 

@@ -69,7 +69,7 @@ pub fn turned_of(
     let mut turned = 0usize;
     let mut from = 0usize;
     while from < n {
-        let k = block_length(from, n);
+        let k = block_length(from, n, 64);
         let e = from + k;
         margins_into(&mut was[..k], from, matrix, bits, n, before);
         margins_into(&mut is[..k], from, matrix, bits, n, after);

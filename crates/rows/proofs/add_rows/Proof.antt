@@ -80,7 +80,7 @@ returns : tie.Need-returns
 returns c =
     let a = c .before .before .before .before .before .before .before .before .before .args in
     simp add-sub-cancel-left at (c .before .before .add-scaled .ensures)
-    ∙ rows-of-doubles (a .matrix .now) (a .bits .now) (a .n) (a .j) (a .from) (a .s) (a .block .now) (omega arith)
+    ∙ rows-of-doubles (a .matrix .now) (a .bits .now) (a .n) (a .from) (a .j) (a .s) (a .block .now) (omega arith)
 
 same-length-2 : tie.Need-same-length-2
 same-length-2 c = search needs
@@ -90,7 +90,7 @@ returns-2 c =
     let at-start = c .before .before .before .before .before .before .before .before .before in
     let a = at-start .args in
     let s : T (fits binary64 (a .s)) = subst T (sym (at-start .good .1 .1 .1 .1 .1 .1 .0 .1)) tt in
-    rows-of-votes (a .matrix .now) (a .bits .now) (a .n) (a .j) (a .from) (a .s) (a .block .now)
+    rows-of-votes (a .matrix .now) (a .bits .now) (a .n) (a .from) (a .j) (a .s) (a .block .now)
     (a .j * bytesOf (a .n) + a .from / 8) (bytesOf (length (a .block .now))) (omega arith) s (at-start .pre .3) refl (omega arith) _
     (simp add-sub-cancel-left at (c .before .before .add-signed .ensures))
 

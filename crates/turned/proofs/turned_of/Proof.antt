@@ -144,7 +144,7 @@ loop-less c =
     let k = at-block-length .block-length in
     omega (
       arith,
-      some-rows (at-loop .loop .from) (k .result) (at-start .args .n) (at-loop-test .loop-test .taken) (k .ensures .2) (k .ensures .3),
+      some-rows (at-loop .loop .from) (k .result) (at-start .args .n) 64 (at-loop-test .loop-test .taken) (omega arith) (k .ensures .2) (k .ensures .3),
     )
 
 loop-again : tie.Need-loop-again Inv-loop μ-loop
@@ -164,7 +164,7 @@ loop-again c =
       omega arith,
       length-front (l .was) (x .last .0) (k .result) (x .kept .0) ∙ l .inv .1,
       length-front (l .is) (y .last .0) (k .result) (y .kept .0) ∙ l .inv .2,
-      on-a-byte (l .from) (k .result) (a .n) (l .inv .3 (at-block-length .before .loop-test .taken)) (k .ensures .2) (k .ensures .3),
+      on-a-byte (l .from) (k .result) (a .n) 64 (l .inv .3 (at-block-length .before .loop-test .taken)) refl (k .ensures .2) (k .ensures .3),
       rw (l .inv .4, c .count-turned .ensures, add-sub-cancel-left (l .from) (k .result))
           (count-block
           (a .thresholds .now)
