@@ -41,20 +41,13 @@ pub fn add_squares(acc: &mut [f64], column: &[f64], s: f64)
     }
 }
 
-// ax - t times the column.
+// ax - t times the column, which is ax + -t times it, to the bit.
 pub fn less_column(ax: &mut [f64], column: &[f64], s: f64, t: f64)
     requires { ⌜ (length (now column) ≤ length (now ax)) × (length (now ax) ≤ length (now column) + 1) ⌝ }
     ensures { λ _. ⌜ now (ax .exit) ≡ tabulate (lessColumn (scaledAt (now (column .entry)) s) t (now (ax .entry)))
         (length (now (ax .entry))) ⌝ }
 {
-    let mut i = 0usize;
-    while i < column.len() {
-        ax[i] = ax[i] - t * (column[i] * s);
-        i += 1;
-    }
-    if i < ax.len() {
-        ax[i] = ax[i] - t * abs(s);
-    }
+    add_column(ax, column, s, -t);
 }
 
 // acc + two columns, each times its g, in order.

@@ -22,3 +22,4 @@ pub mod Maximum
 pub mod ByMagnitude
 pub mod Results
 pub mod Magnitudes
+pub mod Negation

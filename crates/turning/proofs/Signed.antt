@@ -19,7 +19,7 @@ use Rattle.ieee.proofs.Alikes.{alike-refl, alike-of-eq, alike-trans, add-alike,
 use Rattle.ieee.proofs.Equality.{alike-nonzero}
 use Rattle.ieee.proofs.Ranks.{none-below, ltb-no}
 use Rattle.votes.specs.Signing.{signedBy}
-use Rattle.votes.proofs.Turning.{not-unlike, neg-neg, round-neg, neg-times, times-neg}
+use Rattle.ieee.proofs.Negation.{not-unlike, neg-neg, round-neg, neg-times, times-neg}
 
 -- ---- what negation does, to the bit
 
