@@ -9,8 +9,9 @@ use lib.ListN.{length, take, replicate, length-replicate}
 use lib.Seq.{length-take-le}
 use lib.Ieee.{Float}
 use Rattle.seq.specs.Lists.{tabulate}
+use Rattle.seq.specs.Sums.{plusZero}
 use Rattle.change.specs.Margins.{changeTo}
-use Rattle.marking.specs.Moved.{Moved}
+use Rattle.marking.specs.Moved.{Working, Moved}
 use Rattle.movefaults.specs.Changes.{changesOf, Taken}
 use Rattle.movefaults.specs.Answers.{movedFault, lentChanges, Listed}
 use Rattle.movefaults.proofs.Refusals.{passed}
@@ -24,6 +25,12 @@ filled matrix m n before after v k e d = e ∙ (λ t. tabulate (λ i. changeTo m
 -- the front of an array that is lent
 pub front-long : {A : Type 0} (m n : ℕ) (v : A) → n ≤ m → length (take n (replicate m v)) ≡ n
 front-long m n v h = length-take-le n (replicate m v) (omega (arith, length-replicate m v))
+
+-- keys, rows and counts, of arrays that are lent to work in
+pub lent-room : (m n k : ℕ) → n ≤ m → n ≤ 4096 → (256 ≤ n → k ≡ 2048) → (length (take n (replicate m plusZero)) ≡ n)
+    × Working n (length (take n (replicate {A = ℕ} m 0))) (length (replicate {A = ℕ} k 0))
+lent-room m n k h g d =
+    (front-long m n plusZero h, record { most = g; even = front-long m n 0 h; digits = λ l. length-replicate {A = ℕ} k 0 ∙ d l })
 
 module _ (matrix : List Float) (m n : ℕ) (before after : List Float) (rows : List ℕ) (changes : List Float) (r : ℕ)
     (e : r ≡ movedFault matrix m n before after (length rows) (length changes)) where

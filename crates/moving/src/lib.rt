@@ -3,6 +3,7 @@ use change::changes_into;
 use movefaults::moved_fault;
 use sorting::list_moved;
 ghost use mathlib.Core.Path.{_≡_};
+ghost use Prim.Native.Nat.{_≤_, _<_};
 ghost use lib.ListN.{length};
 ghost use Rattle.marking.specs.Moved.{Working, Moved};
 ghost use Rattle.movefaults.specs.Changes.{Taken};
@@ -32,8 +33,74 @@ pub fn list_changes(
     list_moved(rows, changes, &keys[..], room, counts, again);
 }
 
-// The same, with 56 KiB of its own to work in.
-fn list_in_room(
+// The same of few rows, with 768 bytes of its own to work in.
+fn list_few(
+    matrix: &[f64],
+    n: usize,
+    before: &[f64],
+    after: &[f64],
+    rows: &mut [u32],
+    changes: &mut [f64],
+    again: bool,
+)
+    requires { ⌜ Taken (now matrix) (length (now before)) n (now before) (now after)
+        × (length (now rows) ≡ n) × (length (now changes) ≡ n) × (n ≤ 64) ⌝ }
+    ensures { λ _. ⌜ Moved
+        (lentChanges (now (matrix .entry)) (length (now (before .entry))) n (now (before .entry)) (now (after .entry)))
+        (now (rows .exit)) (now (changes .exit)) ⌝ }
+{
+    let mut keys = [0.0f64; 64];
+    let mut room = [0u32; 64];
+    let mut counts = [0u32; 0];
+    list_changes(
+        matrix,
+        n,
+        before,
+        after,
+        rows,
+        changes,
+        &mut keys[..n],
+        &mut room[..n],
+        &mut counts[..],
+        again,
+    );
+}
+
+// The same of more rows, but so few that no digit is counted, with 3 KiB of its own to work in.
+fn list_more(
+    matrix: &[f64],
+    n: usize,
+    before: &[f64],
+    after: &[f64],
+    rows: &mut [u32],
+    changes: &mut [f64],
+    again: bool,
+)
+    requires { ⌜ Taken (now matrix) (length (now before)) n (now before) (now after)
+        × (length (now rows) ≡ n) × (length (now changes) ≡ n) × (n < 256) ⌝ }
+    ensures { λ _. ⌜ Moved
+        (lentChanges (now (matrix .entry)) (length (now (before .entry))) n (now (before .entry)) (now (after .entry)))
+        (now (rows .exit)) (now (changes .exit)) ⌝ }
+{
+    let mut keys = [0.0f64; 256];
+    let mut room = [0u32; 256];
+    let mut counts = [0u32; 0];
+    list_changes(
+        matrix,
+        n,
+        before,
+        after,
+        rows,
+        changes,
+        &mut keys[..n],
+        &mut room[..n],
+        &mut counts[..],
+        again,
+    );
+}
+
+// The same of any number of rows, with 56 KiB of its own to work in.
+fn list_any(
     matrix: &[f64],
     n: usize,
     before: &[f64],
@@ -63,6 +130,33 @@ fn list_in_room(
         &mut counts[..],
         again,
     );
+}
+
+// The same, with arrays of its own to work in: they are cleared at each call, and so are no longer than the rows ask for.
+fn list_in_room(
+    matrix: &[f64],
+    n: usize,
+    before: &[f64],
+    after: &[f64],
+    rows: &mut [u32],
+    changes: &mut [f64],
+    again: bool,
+)
+    requires { ⌜ Taken (now matrix) (length (now before)) n (now before) (now after)
+        × (length (now rows) ≡ n) × (length (now changes) ≡ n) ⌝ }
+    ensures { λ _. ⌜ Moved
+        (lentChanges (now (matrix .entry)) (length (now (before .entry))) n (now (before .entry)) (now (after .entry)))
+        (now (rows .exit)) (now (changes .exit)) ⌝ }
+{
+    if n <= 64 {
+        list_few(matrix, n, before, after, rows, changes, again);
+        return;
+    }
+    if n < 256 {
+        list_more(matrix, n, before, after, rows, changes, again);
+        return;
+    }
+    list_any(matrix, n, before, after, rows, changes, again);
 }
 
 // Lists, or refuses.

@@ -1,12 +1,11 @@
--- `moving::list_in_room` meets its contract: the fronts of its arrays are as long as the rows.
-use lib.ListN.{length-replicate}
+-- `moving::list_more` meets its contract: the fronts of its arrays are as long as the rows.
 use Rattle.seq.specs.Sums.{plusZero}
-use Rattle.moving.proofs.Listing.{front-long}
+use Rattle.moving.proofs.Listing.{front-long, lent-room}
 use borrow.Author.Needs.{needs}
-use Prim.Native.Nat.{ℕ}
 use mathlib.Core.Path.{sym}
-use Rattle.moving.proofs.list_in_room.Statement.{statement}
-use Rattle.moving.proofs.list_in_room.Tie as tie
+use native.Mathlib.Omega.{arith}
+use Rattle.moving.proofs.list_more.Statement.{statement}
+use Rattle.moving.proofs.list_more.Tie as tie
 
 array-borrow-prefix-keys : tie.Need-array-borrow-prefix-keys
 array-borrow-prefix-keys c = search needs
@@ -14,7 +13,7 @@ array-borrow-prefix-keys c = search needs
 slice-aggregate-list-changes : tie.Need-slice-aggregate-list-changes
 slice-aggregate-list-changes c =
     let at-start = c .before .before .before .before .before .before .before .before in
-    sym (front-long 4096 (at-start .args .n) plusZero (at-start .pre .0 .lent .short))
+    sym (front-long 256 (at-start .args .n) plusZero (omega (arith, at-start .pre .3)))
 
 array-borrow-prefix-room : tie.Need-array-borrow-prefix-room
 array-borrow-prefix-room c = search needs
@@ -22,7 +21,7 @@ array-borrow-prefix-room c = search needs
 slice-aggregate-list-changes-2 : tie.Need-slice-aggregate-list-changes-2
 slice-aggregate-list-changes-2 c =
     let at-start = c .before .before .before .before .before .before .before .before .before in
-    sym (front-long 4096 (at-start .args .n) 0 (at-start .pre .0 .lent .short))
+    sym (front-long 256 (at-start .args .n) 0 (omega (arith, at-start .pre .3)))
 
 slice-aggregate-list-changes-3 : tie.Need-slice-aggregate-list-changes-3
 slice-aggregate-list-changes-3 c = search needs
@@ -31,9 +30,8 @@ list-changes-requires : tie.Need-list-changes-requires
 list-changes-requires c κs =
     let at-start = c .before .before .before .before .before .before .before .before .before .before in
     let p = at-start .pre in
-    let short = p .0 .lent .short in
-    let n = at-start .args .n in
-    (p .0, p .1, p .2, front-long 4096 n plusZero short, record { most = short; even = front-long 4096 n 0 short; digits = length-replicate {A = ℕ} 2048 0 })
+    let w = lent-room 256 (at-start .args .n) 0 (omega (arith, p .3)) (p .0 .lent .short) (λ h. omega (arith, p .3)) in
+    (p .0, p .1, p .2, w .0, w .1)
 
 same-length : tie.Need-same-length
 same-length c = search needs
@@ -44,8 +42,8 @@ same-length-2 c = search needs
 returns : tie.Need-returns
 returns c = search needs
 
-pub list-in-room-spec : {M : Type 1} → statement M
-list-in-room-spec =
+pub list-more-spec : {M : Type 1} → statement M
+list-more-spec =
     tie.close
     (tie.spec
     array-borrow-prefix-keys
