@@ -149,14 +149,48 @@ fn other_width<T>(file: &str, line: &Line, has: usize, first: &Line, width: usiz
     wrong(file, &format!("line {}", line.number), &format!("it has {has}, and line {} has {width}", first.number))
 }
 
+/// Fills a row with the numbers of a line, which has as many fields as the first.
+fn fill(file: &str, line: &Line, first: &Line, names: bool, row: &mut Vec<f64>) -> Result<(), Trouble> {
+    if line.numbers(names, row).is_some() {
+        return Ok(());
+    }
+    let (fields, width) = (line.fields(file)?, row.len() + usize::from(names));
+    if fields.len() != width {
+        return other_width(file, line, fields.len(), first, width);
+    }
+    row.clear();
+    numbers(file, line, &fields, names, row)
+}
+
+/// The weights, and the verdicts hypothesis after hypothesis.
+fn weights_and_verdicts(request: &Request, lines: &[Line], names: bool, width: usize) -> Result<(Vec<f64>, Vec<f64>), Trouble> {
+    let (mut weights, mut verdicts) = (Vec::new(), Vec::new());
+    let mut row = vec![0.0; width - usize::from(names)];
+    for (k, line) in lines.iter().enumerate() {
+        fill(&request.file, line, &lines[0], names, &mut row)?;
+        // The first line has all the weights, or each line begins with its own.
+        let count = match request.by_word {
+            true if k == 0 => row.len(),
+            true => 0,
+            false => row.len().min(1),
+        };
+        weights.extend_from_slice(&row[..count]);
+        verdicts.extend_from_slice(&row[count..]);
+    }
+    if request.by_word {
+        let m = weights.len();
+        verdicts = (0..m).flat_map(|j| verdicts.iter().skip(j).step_by(m)).copied().collect();
+    }
+    Ok((weights, verdicts))
+}
+
 pub fn read(request: &Request) -> Result<Ensemble, Trouble> {
-    let file = &request.file;
+    let (file, by_word) = (&request.file, request.by_word);
     let content = table::bytes(file)?;
     let all_lines = table::lines(file, &content)?;
     let Some(top) = all_lines.first() else { return wrong(file, "", "there is no line in it") };
     let header = top.fields(file)?;
-    let (header, lines) =
-        if request.header || is_header(&header, request.by_word) { (header, &all_lines[1..]) } else { (vec![], &all_lines[..]) };
+    let (header, lines) = if request.header || is_header(&header, by_word) { (header, &all_lines[1..]) } else { (vec![], &all_lines[..]) };
     let Some(first) = lines.first() else { return wrong(file, "", "there is nothing below the header") };
     let names = has_names(file, &header, lines, request)?;
     let width = first.fields(file)?.len();
@@ -164,34 +198,17 @@ pub fn read(request: &Request) -> Result<Ensemble, Trouble> {
     if !header.is_empty() && header.len() != width && header.len() + usize::from(names) != width {
         return other_width(file, top, header.len(), first, width);
     }
-    let mut all = Vec::with_capacity(lines.len() * width);
-    for line in lines {
-        let fields = line.fields(file)?;
-        if fields.len() != width {
-            return other_width(file, line, fields.len(), first, width);
-        }
-        numbers(file, line, &fields, names, &mut all)?;
+    let (weights, verdicts) = weights_and_verdicts(request, lines, names, width)?;
+    // A line without a number has no weight.
+    if weights.is_empty() && !by_word {
+        return wrong(file, &format!("line {}", first.number), "there is no weight");
     }
-    let width = width - usize::from(names);
-    let layout = Layout { by_word: request.by_word, names, lines: lines.iter().map(|line| line.number).collect() };
-    let firsts = if names { lines.iter().map(|line| line.first(file).map(Cow::into_owned)).collect::<Result<_, _>>()? } else { Vec::new() };
-    let file = file.clone();
-    if request.by_word {
-        let (m, n) = (width, lines.len() - 1);
-        let verdicts = (0..m).flat_map(|j| all[m..].iter().skip(j).step_by(m.max(1))).copied().collect();
-        let words = firsts.into_iter().skip(1).collect();
-        Ok(Ensemble { file, m, n, weights: all[..m].to_vec(), verdicts, hypotheses: last(&header, m), words, layout })
-    } else {
-        // A line without a number has no weight.
-        if width == 0 {
-            return wrong(&file, &format!("line {}", first.number), "there is no weight");
-        }
-        let (m, n) = (lines.len(), width - 1);
-        let weights = all.iter().step_by(width).copied().collect();
-        let mut verdicts = Vec::with_capacity(m * n);
-        all.chunks(width).for_each(|line| verdicts.extend_from_slice(&line[1..]));
-        Ok(Ensemble { file, m, n, weights, verdicts, hypotheses: firsts, words: last(&header, n), layout })
-    }
+    let (m, n) = if by_word { (weights.len(), lines.len() - 1) } else { (lines.len(), width - 1 - usize::from(names)) };
+    let layout = Layout { by_word, names, lines: lines.iter().map(|line| line.number).collect() };
+    let firsts: Vec<String> =
+        if names { lines.iter().map(|line| line.first(file).map(Cow::into_owned)).collect::<Result<_, _>>()? } else { Vec::new() };
+    let (hypotheses, words) = if by_word { (last(&header, m), firsts.into_iter().skip(1).collect()) } else { (firsts, last(&header, n)) };
+    Ok(Ensemble { file: file.clone(), m, n, weights, verdicts, hypotheses, words, layout })
 }
 
 fn last(fields: &[Cow<str>], count: usize) -> Vec<String> {

@@ -148,6 +148,15 @@ fn too_many() {
     assert!(out.starts_with("{\"number\": 3, ") && err.contains("has 257 hypotheses and 1 words; there may be 256 and 4096"), "{err}");
 }
 
+/// A first line that would have the others hold more than any memory does.
+#[test]
+fn too_wide() {
+    let file = file("too_wide", format!("1{}\n{}", ",1".repeat(199_999), "1\n".repeat(200_000)));
+    let (status, _, err) = said(&knob(&["thin", "--target", "1", file.to_str().unwrap()]));
+    assert_eq!(status, 2);
+    assert!(err.ends_with(", line 2: it has 1 field, and line 1 has 200000\n"), "{err}");
+}
+
 #[test]
 fn thresholds() {
     let ensemble = file("thresholds", "0.5,1,1\n0.5,1,-1\n");
