@@ -4,12 +4,14 @@ use answers::answer_for;
 use answers::refused;
 use draw::SplitMix64;
 use faults::job_fault;
-use following::follow;
 use rules::Cap;
 use rules::Rule;
 use seq::clear;
 use seq::clear_words;
 use seq::copy;
+use stages::Path;
+use toallowance::to_allowance;
+use totarget::to_target;
 use weights::normalize;
 ghost use mathlib.Core.Path.{_≡_};
 ghost use lib.ListN.{length};
@@ -26,12 +28,49 @@ ghost use Rattle.ieee.specs.Constants.{one};
 ghost use Rattle.weights.specs.Weights.{normalized};
 ghost use Rattle.halved.specs.Handed.{Ready};
 ghost use mathlib.Core.Bool.{true};
+ghost use Rattle.stages.specs.Paths.{Followed};
 
 // A seed, the edition of its draws, 1 or 2, and a rule.
 pub struct Job {
     pub seed: u64,
     pub edition: u32,
     pub rule: Rule,
+}
+
+// Follows the stages to the one at which the rule stops; the path to there. w and start are the normalized weights, next is room for a
+// pass that is only tried.
+fn follow(
+    matrix: &[f64],
+    bits: &[u8],
+    n: usize,
+    start: &[f64],
+    w: &mut [f64],
+    next: &mut [f64],
+    numbers: &mut [f64],
+    indices: &mut [u32],
+    source: SplitMix64,
+    rule: Rule,
+) -> Path
+    requires { ⌜ Ready (now matrix) (now bits) n (now w) (now numbers) (now indices) × (bounded one (now w) ≡ true) × (now w ≡ now start)
+        × (length (now next) ≡ length (now w)) × (ruleFault rule ≡ 0) ⌝ }
+    ensures { λ r. ⌜ Followed (readOf (now (matrix .entry)) (now (bits .entry)) n) n (now (w .entry)) source rule r (now (w .exit)) ⌝ }
+{
+    match rule {
+        Rule::Target(t) => to_target(matrix, bits, n, start, w, numbers, indices, source, t),
+        Rule::Within { allowance, cap } => to_allowance(
+            matrix,
+            bits,
+            n,
+            start,
+            w,
+            next,
+            numbers,
+            indices,
+            source,
+            allowance,
+            cap,
+        ),
+    }
 }
 
 // Thins from the normalized weights into the output, and wipes the scratch. next is room for a pass that is only tried.

@@ -1,8 +1,8 @@
--- `following::follow` meets its contract: the rule's case says which loop follows the stages.
+-- `sparsification::follow` meets its contract: the rule's case says which loop follows the stages.
 use Rattle.stages.proofs.Halting.{target-some}
 use borrow.Author.Needs.{needs}
-use Rattle.following.proofs.follow.Statement.{statement}
-use Rattle.following.proofs.follow.Tie as tie
+use Rattle.sparsification.proofs.follow.Statement.{statement}
+use Rattle.sparsification.proofs.follow.Tie as tie
 
 enum-known-rule : tie.Need-enum-known-rule
 enum-known-rule c = search needs
