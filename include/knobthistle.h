@@ -357,7 +357,7 @@ uint64_t knob_moved_again(const double *matrix, size_t matrix_length, size_t m, 
 /* The answer of a sheet as knob_thin_sheet gives it, and behind an `ok` answer a line `word`, row, change for each row, from 0, in the
    order of knob_moved: the change from the normalized weights to those that the answer has, its bits as 16 hex digits. Returns how many
    bytes were written to answer; where the answer is longer than answer_length, 0, and nothing is written. KNOB_MOVED_ANSWER bytes are
-   enough for every answer. Uses about 115 KiB of stack. */
+   enough for every answer. Uses about 119 KiB of stack. */
 #define KNOB_MOVED_ANSWER 4094
 size_t knob_moved_sheet(const uint8_t *text, size_t text_length, uint8_t *answer, size_t answer_length);
 
