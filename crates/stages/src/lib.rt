@@ -1,4 +1,4 @@
-// How a job follows the stages to the one at which it stops.
+// The sequence of stages and where a job stops in it: the record of a path; the definitions are in specs/, the laws in proofs/.
 
 // The stage that a job has reached, the directions and the sweeps of all its passes, and the nonzero entries and the change of each stage
 // from 0 to it; zeros after it.
