@@ -1,7 +1,6 @@
 // The lines of a sheet's columns, written each where the one before it ends.
 use putting::put_bits;
 use putting::put_word;
-ghost use mathlib.Core.Path.{_≡_};
 ghost use mathlib.Core.List.{_∷_};
 ghost use Prim.Native.Nat.{_+_, _*_, _≤_};
 ghost use lib.ListN.{length, getD};
@@ -9,6 +8,7 @@ ghost use Rattle.fields.specs.Bytes.{tab};
 ghost use Rattle.fields.specs.Texts.{bitsText};
 ghost use Rattle.fields.specs.Steps.{WroteOn};
 ghost use Rattle.form.specs.Sheets.{entriesText, columnText, columnsText};
+ghost use Rattle.form.specs.Columns.{ColumnsLent};
 
 // Writes an entry: a tab, and bits.
 fn put_entry(out: &mut [u8], at: usize, x: u64) -> usize
@@ -48,8 +48,7 @@ fn put_column(out: &mut [u8], at: usize, weight: u64, entries: &[u64]) -> usize
 
 // Writes the lines of the columns.
 pub fn put_columns(out: &mut [u8], at: usize, matrix: &[u64], n: usize, weights: &[u64]) -> usize
-    requires { ⌜ (at ≤ 111) × (n ≤ 64) × (length (now weights) ≤ 32) × (length (now matrix) ≡ length (now weights) * n)
-        × (35600 ≤ length (now out)) ⌝ }
+    requires { ⌜ ColumnsLent at (now matrix) n (now weights) (now out) ⌝ }
     ensures { λ r. ⌜ WroteOn (columnsText n (λ j. getD (now (weights .entry)) j 0) (λ j i. getD (now (matrix .entry)) (j * n + i) 0)
         (length (now (weights .entry)))) at (now (out .entry)) r (now (out .exit)) ⌝ }
 {

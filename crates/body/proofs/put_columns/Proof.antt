@@ -30,8 +30,8 @@ mul-start c =
     omega (
       arith,
       column-inside (at-loop .loop .j) (length (at-start .args .weights .now)) (at-start .args .n)
-          (omega (arith, at-loop-test .loop-test .taken)) (omega (arith, at-start .pre .2)) (omega (arith, at-start .pre .1)),
-      at-start .pre .3,
+          (omega (arith, at-loop-test .loop-test .taken)) (at-start .pre .columns) (at-start .pre .rows),
+      at-start .pre .entries,
     )
 
 mul-put-column : tie.Need-mul-put-column Inv-loop μ-loop
@@ -48,8 +48,8 @@ add-put-column c =
     omega (
       arith,
       column-inside (at-loop .loop .j) (length (at-start .args .weights .now)) (at-start .args .n)
-          (omega (arith, at-loop-test .loop-test .taken)) (omega (arith, at-start .pre .2)) (omega (arith, at-start .pre .1)),
-      at-start .pre .3,
+          (omega (arith, at-loop-test .loop-test .taken)) (at-start .pre .columns) (at-start .pre .rows),
+      at-start .pre .entries,
     )
 
 mul-put-column-2 : tie.Need-mul-put-column-2 Inv-loop μ-loop
@@ -60,8 +60,8 @@ mul-put-column-2 c =
     omega (
       arith,
       column-inside (at-loop .loop .j) (length (at-start .args .weights .now)) (at-start .args .n)
-          (omega (arith, at-loop-test .loop-test .taken)) (omega (arith, at-start .pre .2)) (omega (arith, at-start .pre .1)),
-      at-start .pre .3,
+          (omega (arith, at-loop-test .loop-test .taken)) (at-start .pre .columns) (at-start .pre .rows),
+      at-start .pre .entries,
     )
 
 sub-put-column : tie.Need-sub-put-column Inv-loop μ-loop
@@ -78,8 +78,8 @@ part-put-column-end c =
     omega (
       arith,
       column-inside (at-loop .loop .j) (length (at-start .args .weights .now)) (at-start .args .n)
-          (omega (arith, at-loop-test .loop-test .taken)) (omega (arith, at-start .pre .2)) (omega (arith, at-start .pre .1)),
-      at-start .pre .3,
+          (omega (arith, at-loop-test .loop-test .taken)) (at-start .pre .columns) (at-start .pre .rows),
+      at-start .pre .entries,
     )
 
 put-column-requires : tie.Need-put-column-requires Inv-loop μ-loop
@@ -90,11 +90,11 @@ put-column-requires c κs =
     let j = at-loop .loop .j in
     let n = at-start .args .n in
     let many = length (at-start .args .weights .now) in
-    let inside = column-inside j many n (omega (arith, at-loop-test .loop-test .taken)) (omega (arith, at-start .pre .2)) (omega (arith, at-start .pre .1)) in
-    let ends = column-ends j many n (omega (arith, at-loop-test .loop-test .taken)) (omega (arith, at-start .pre .2)) (omega (arith, at-start .pre .1)) in
+    let inside = column-inside j many n (omega (arith, at-loop-test .loop-test .taken)) (at-start .pre .columns) (at-start .pre .rows) in
+    let ends = column-ends j many n (omega (arith, at-loop-test .loop-test .taken)) (at-start .pre .columns) (at-start .pre .rows) in
     let lent : length (part (j * n) (j * n + n - j * n) (at-start .args .matrix .now)) ≡ n = rw (add-sub-cancel-left (j * n) n)
-    (length-part (j * n) n (at-start .args .matrix .now) (omega (arith, at-start .pre .3))) in
-    omega (arith, lent, at-loop .loop .inv .near, at-loop .loop .inv .same, at-start .pre)
+    (length-part (j * n) n (at-start .args .matrix .now) (omega (arith, at-start .pre .entries))) in
+    omega (arith, lent, at-loop .loop .inv .near, at-loop .loop .inv .same, at-start .pre .start, at-start .pre .room)
 
 add-j : tie.Need-add-j Inv-loop μ-loop
 add-j c = search needs
@@ -111,10 +111,10 @@ loop-again c =
     let j = at-loop .loop .j in
     let n = at-start .args .n in
     let many = length (at-start .args .weights .now) in
-    let inside = column-inside j many n (omega (arith, at-loop-test .loop-test .taken)) (omega (arith, at-start .pre .2)) (omega (arith, at-start .pre .1)) in
+    let inside = column-inside j many n (omega (arith, at-loop-test .loop-test .taken)) (at-start .pre .columns) (at-start .pre .rows) in
     columning-turn (at-put-column .put-column .result) (at-put-column .put-column .last .0) _ (at-loop .loop .inv)
-    (omega (arith, at-loop-test .loop-test .taken)) (at-start .pre .0) (at-start .pre .2) (at-start .pre .1) (at-start .pre .4)
-    (at-put-column .put-column .kept .0) (omega (arith, at-start .pre .3))
+    (omega (arith, at-loop-test .loop-test .taken)) (at-start .pre .start) (at-start .pre .columns) (at-start .pre .rows) (at-start .pre .room)
+    (at-put-column .put-column .kept .0) (omega (arith, at-start .pre .entries))
     (ap (λ (k : ℕ). part (j * n) k (at-start .args .matrix .now)) (add-sub-cancel-left (j * n) n))
     (at-put-column .put-column .ensures)
 

@@ -16,13 +16,14 @@ put-columns-requires c κs =
     let at-start = at-put-head .before .before .before .before .before in
     let first = length-first (at-start .args .m) (at-start .args .n) (at-start .args .seed)
     (wishFor (at-start .args .rule) (at-start .args .allowance) (at-start .args .limit)) (at-start .args .edition) in
-    let p = at-start .pre in (
-      omega (arith, first, at-put-head .put-head .ensures .ends),
-      p .1,
-      omega (arith, p .0, p .3),
-      rw (p .3) (p .2),
-      omega (arith, p .4, at-put-head .put-head .kept .0),
-    )
+    let p = at-start .pre in
+    record {
+      start = omega (arith, first, at-put-head .put-head .ensures .ends);
+      rows = p .1;
+      columns = omega (arith, p .0, p .3);
+      entries = rw (p .3) (p .2);
+      room = omega (arith, p .4, at-put-head .put-head .kept .0);
+    }
 
 same-length : tie.Need-same-length
 same-length c = search needs
