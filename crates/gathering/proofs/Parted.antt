@@ -15,7 +15,7 @@ use Rattle.seq.proofs.Choosing.{both}
 use Rattle.fields.specs.Bytes.{newline}
 use Rattle.gathering.specs.Lines.{Lines, more, after}
 use Rattle.gathering.specs.Kept.{isFirst, isLine}
-use Rattle.gathering.specs.Steps.{most, firstState, keeps, laterState, Holding, Took}
+use Rattle.gathering.specs.Steps.{most, HeldByte, firstState, keeps, laterState, HeldLine, Holding, Took}
 use Rattle.gathering.specs.declared.State.{State}
 use Rattle.gathering.proofs.Cut.{Stored, stored}
 use Rattle.gathering.proofs.Bytewise.{take-most, reach, within-line, ends-first, ends-later}
@@ -35,16 +35,16 @@ module _ (s : State) (line marks : List ℕ) (b : Bool) where
   among g = leb-true (s .lines) (s .m) (both (s .good) (leb (s .lines) (s .m)) (both (s .good && leb (s .lines) (s .m)) b g .0) .1)
 
   pub later-kept : b ≡ isLine (s .n) line → ((s .good && leb (s .lines) (s .m)) && b) ≡ true
-      → (record { lines = s .lines + 1; long = 0; end = s .end + length line; kept = s .kept + 1; good = s .good; m = s .m; n = s .n } ≡ laterState s line)
-      × (set marks (s .lines) 1 ≡ pick (keeps s line) (set marks (s .lines) 1) marks)
+      → HeldLine s line marks
+      (record { lines = s .lines + 1; long = 0; end = s .end + length line; kept = s .kept + 1; good = s .good; m = s .m; n = s .n })
+      (set marks (s .lines) 1)
   unfolding laterState
-  later-kept e g = let t = later-test true e g in (rw t, rw t)
+  later-kept e g = let t = later-test true e g in record { state = rw t; mark = rw t }
 
   pub later-lost : b ≡ isLine (s .n) line → ((s .good && leb (s .lines) (s .m)) && b) ≡ false
-      → (record { lines = s .lines + 1; long = 0; end = s .end; kept = s .kept; good = s .good; m = s .m; n = s .n } ≡ laterState s line)
-      × (marks ≡ pick (keeps s line) (set marks (s .lines) 1) marks)
+      → HeldLine s line marks (record { lines = s .lines + 1; long = 0; end = s .end; kept = s .kept; good = s .good; m = s .m; n = s .n }) marks
   unfolding laterState
-  later-lost e g = let t = later-test false e g in (rw t, rw t)
+  later-lost e g = let t = later-test false e g in record { state = rw t; mark = rw t }
 
 either : (t : Bool) (a b : State) (k : ℕ) → a .lines ≡ k → b .lines ≡ k → pick t a b .lines ≡ k
 either true a b k p q = p
@@ -59,10 +59,9 @@ unfolding laterState
 later-lines s line = either (keeps s line) _ _ (s .lines + 1) refl refl
 
 -- what is held after one byte, of what each function says
-module _ (h : State) (room marks : List ℕ) (b r : ℕ) (room' : List ℕ)
-    (e : (r ≡ pick (ltb (h .long) 1110) (h .long + 1) (h .long)) × (room' ≡ pick (ltb (h .long) 1110) (set room (h .end + h .long) b) room)) where
+module _ (h : State) (room marks : List ℕ) (b r : ℕ) (room' : List ℕ) (e : HeldByte b (h .end) (h .long) room r room') where
   in-room : (s : Lines) → Holding s h room marks → Stored (h .end) room (s .rest ++ (b ∷ [])) r room'
-  in-room s k = rw (e .0, e .1) (stored (h .end) (h .long) room (s .rest) b (reach k .room-left) (k .long) (k .piece))
+  in-room s k = rw (e .counts, e .writes) (stored (h .end) (h .long) room (s .rest) b (reach k .room-left) (k .long) (k .piece))
 
   pub took-within : (b ≡ newline → ⊥)
       → Took (b ∷ []) h room marks (record { lines = h .lines; long = r; end = h .end; kept = h .kept; good = h .good; m = h .m; n = h .n }) room' marks
@@ -76,22 +75,21 @@ module _ (h : State) (room marks : List ℕ) (b r : ℕ) (room' : List ℕ)
       }
 
   pub took-later : (state : State) (held marks' : List ℕ) → b ≡ newline → 0 < h .lines → held ≡ part (h .end) r room'
-      → (state ≡ laterState h held) × (marks' ≡ pick (keeps h held) (set marks (h .lines) 1) marks) → Took (b ∷ []) h room marks state room' marks'
+      → HeldLine h held marks state marks' → Took (b ∷ []) h room marks state room' marks'
   took-later state held marks' g z p q =
       record {
-        lines = omega (arith, ap (λ (x : State). x .lines) (q .0), later-lines h held);
-        holds = λ s k. rw (g, q .0, q .1) (ends-later r room' held z k (rw (← g) (in-room s k)) p);
+        lines = omega (arith, ap (λ (x : State). x .lines) (q .state), later-lines h held);
+        holds = λ s k. rw (g, q .state, q .mark) (ends-later r room' held z k (rw (← g) (in-room s k)) p);
       }
 
 -- how much of a line is held, and how long the room is then
-pub held-most : (h : State) (room : List ℕ) (b r : ℕ) (room' : List ℕ)
-    → (r ≡ pick (ltb (h .long) 1110) (h .long + 1) (h .long)) × (room' ≡ pick (ltb (h .long) 1110) (set room (h .end + h .long) b) room) → h .long ≤ most
+pub held-most : (h : State) (room : List ℕ) (b r : ℕ) (room' : List ℕ) → HeldByte b (h .end) (h .long) room r room' → h .long ≤ most
     → (r ≤ most) × (length room' ≡ length room)
-held-most h room b r room' e l = go (ltb (h .long) 1110) refl (e .0) (e .1)
+held-most h room b r room' e l = go (ltb (h .long) most) refl (e .counts) (e .writes)
   where
-    go : (t : Bool) → ltb (h .long) 1110 ≡ t → r ≡ pick t (h .long + 1) (h .long) → room' ≡ pick t (set room (h .end + h .long) b) room
+    go : (t : Bool) → ltb (h .long) most ≡ t → r ≡ pick t (h .long + 1) (h .long) → room' ≡ pick t (set room (h .end + h .long) b) room
         → (r ≤ most) × (length room' ≡ length room)
-    go true f p q = (omega (arith, ltb-true (h .long) 1110 f), ap length q ∙ length-set room (h .end + h .long) b)
+    go true f p q = (omega (arith, ltb-true (h .long) most f), ap length q ∙ length-set room (h .end + h .long) b)
     go false f p q = (omega arith, ap length q)
 
 pub first-most : (k : ℕ) (xs : List ℕ) → length (take k xs) ≤ k

@@ -1,10 +1,10 @@
 -- Told between functions: what is held of a text that was read so far, and how each line changes it.
-use Prim.Native.Nat.{ℕ, _+_, _*_, _≤_}
+use Prim.Native.Nat.{ℕ, _+_, _*_, _≤_, _<_}
 use mathlib.Core.Path.{_≡_}
 use mathlib.Core.Bool.{Bool, true, false, _&&_}
 use mathlib.Core.List.{List, [], _++_}
-use lib.Dec.{leb}
-use lib.ListN.{length, getD, take}
+use lib.Dec.{leb, ltb}
+use lib.ListN.{length, getD, take, set}
 use Rattle.seq.specs.Choice.{pick}
 use Rattle.seq.specs.Lists.{part}
 use Rattle.seq.specs.Keep.{count}
@@ -17,6 +17,11 @@ use Rattle.gathering.specs.declared.State.{State}
 -- how much of a line is held: more than any good line has
 abbrev pub most : ℕ
 most = 1110
+
+-- one byte of a line more: it stands behind those that are held of the line, where there are not too many, and r are held then
+pub record HeldByte (b end long : ℕ) (room : List ℕ) (r : ℕ) (room' : List ℕ) : Type 0 where
+  pub counts : r ≡ pick (ltb long most) (long + 1) long
+  pub writes : room' ≡ pick (ltb long most) (set room (end + long) b) room
 
 -- after the first line
 unfoldable pub firstState : List ℕ → State
@@ -35,6 +40,21 @@ laterState s line =
     pick (keeps s line)
     (record { lines = s .lines + 1; long = 0; end = s .end + length line; kept = s .kept + 1; good = s .good; m = s .m; n = s .n })
     (record { lines = s .lines + 1; long = 0; end = s .end; kept = s .kept; good = s .good; m = s .m; n = s .n })
+
+-- what a later line is judged with: sizes and a line within those of a sheet, fewer lines than are ever fed, a mark for each column's line
+pub record LineLent (s : State) (line marks : List ℕ) : Type 0 where
+  pub rows : s .n ≤ 64
+  pub columns : s .m ≤ 32
+  pub marked : 33 ≤ length marks
+  pub lines : s .lines < 9223372036854775808
+  pub ends : s .end ≤ 65536
+  pub many : s .kept ≤ 32
+  pub short : length line ≤ most
+
+-- r is the state after a later line, which is marked where it is kept
+pub record HeldLine (s : State) (line marks : List ℕ) (r : State) (marks' : List ℕ) : Type 0 where
+  pub state : r ≡ laterState s line
+  pub mark : marks' ≡ pick (keeps s line) (set marks (s .lines) 1) marks
 
 -- What a state and its two buffers hold of lines: the first line and the kept ones from the front of the room, behind them the first bytes
 -- of the line that is not whole, and a mark for each kept line.

@@ -4,12 +4,10 @@ use lines::is_column;
 ghost use mathlib.Core.Path.{_≡_};
 ghost use Prim.Native.Nat.{_+_, _≤_, _<_};
 ghost use mathlib.Core.List.{[], _∷_};
-ghost use lib.Dec.{ltb};
-ghost use lib.ListN.{length, set};
-ghost use Rattle.seq.specs.Choice.{pick};
+ghost use lib.ListN.{length};
 ghost use Rattle.seq.specs.Lists.{repeated};
 ghost use Rattle.gathering.specs.Kept.{isLine};
-ghost use Rattle.gathering.specs.Steps.{firstState, keeps, laterState, Held, Took, startState};
+ghost use Rattle.gathering.specs.Steps.{HeldByte, firstState, LineLent, HeldLine, Held, Took, startState};
 
 // What was read so far: the whole lines, the bytes of the one that is not whole that are held, where the kept text ends, the kept columns,
 // whether the first line is good, and its sizes.
@@ -26,8 +24,7 @@ pub struct State {
 // Holds a byte of a line behind those before it, if there is room for more of the line, and says how many are held.
 fn hold(room: &mut [u8], end: usize, long: usize, b: u8) -> usize
     requires { ⌜ (end + 1110 ≤ length (now room)) × (long ≤ 1110) ⌝ }
-    ensures { λ r. ⌜ (r ≡ pick (ltb long 1110) (long + 1) long)
-        × (now (room .exit) ≡ pick (ltb long 1110) (set (now (room .entry)) (end + long) b) (now (room .entry))) ⌝ }
+    ensures { λ r. ⌜ HeldByte b end long (now (room .entry)) r (now (room .exit)) ⌝ }
 {
     if long < 1110 {
         room[end + long] = b;
@@ -76,10 +73,8 @@ fn is_line(line: &[u8], n: usize) -> bool
 
 // What is held after a later line, and its mark.
 fn later_line(s: State, line: &[u8], marks: &mut [u8]) -> State
-    requires { ⌜ (s .n ≤ 64) × (s .m ≤ 32) × (33 ≤ length (now marks)) × (s .lines < 9223372036854775808) × (s .end ≤ 65536)
-        × (s .kept ≤ 32) × (length (now line) ≤ 1110) ⌝ }
-    ensures { λ r. ⌜ (r ≡ laterState s (now (line .entry)))
-        × (now (marks .exit) ≡ pick (keeps s (now (line .entry))) (set (now (marks .entry)) (s .lines) 1) (now (marks .entry))) ⌝ }
+    requires { ⌜ LineLent s (now line) (now marks) ⌝ }
+    ensures { λ r. ⌜ HeldLine s (now (line .entry)) (now (marks .entry)) r (now (marks .exit)) ⌝ }
 {
     let number = s.lines;
     let fits = s.good & (number <= s.m);

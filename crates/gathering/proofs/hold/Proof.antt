@@ -19,12 +19,12 @@ same-length c = search needs
 returns : tie.Need-returns
 returns c =
     let p = lt-ltb _ _ (c .if1 .taken) in
-    (rw p, rw p)
+    record { counts = rw p; writes = rw p }
 
 returns-2 : tie.Need-returns-2
 returns-2 c =
     let p = le-ltb _ _ (c .if1 .left) in
-    (rw p, rw p)
+    record { counts = rw p; writes = rw p }
 
 pub hold-spec : {M : Type 1} → statement M
 hold-spec = tie.close (tie.spec add-room slice-write-room add-result same-length returns returns-2)

@@ -11,7 +11,12 @@ is-line-requires c κs = search needs
 slice-write-marks : tie.Need-slice-write-marks
 slice-write-marks c =
     let at-start = c .before .before .before .before .before .before in
-    omega (arith, among (at-start .args .s) (at-start .args .line .now) (at-start .args .marks .now) _ (c .if1 .taken), at-start .pre)
+    omega (
+      arith,
+      among (at-start .args .s) (at-start .args .line .now) (at-start .args .marks .now) _ (c .if1 .taken),
+      at-start .pre .columns,
+      at-start .pre .marked,
+    )
 
 add-t9 : tie.Need-add-t9
 add-t9 c = search needs

@@ -95,8 +95,15 @@ later-line-requires c κs =
     let start = h .end in
     let part-long : length (part start (start + at-hold .hold .result - start) (at-hold .hold .last .0)) ≤ 1110 =
     rw (add-sub-cancel-left start (at-hold .hold .result)) (omega (arith, long .0, part-most start (at-hold .hold .result) (at-hold .hold .last .0))) in
-    let k = at-start .pre .0 .holds in
-    (fit .rows, fit .columns, k .marked, at-start .pre .1, omega (arith, fit .ends), fit .many, part-long)
+    record {
+      rows = fit .rows;
+      columns = fit .columns;
+      marked = at-start .pre .0 .holds .marked;
+      lines = at-start .pre .1;
+      ends = omega (arith, fit .ends);
+      many = fit .many;
+      short = part-long;
+    }
 
 same-length-3 : tie.Need-same-length-3
 same-length-3 c = search needs
