@@ -1,5 +1,5 @@
 -- Told between functions: what is written of what is held.
-use Prim.Native.Nat.{ℕ, _+_, _-_, _≤_}
+use Prim.Native.Nat.{ℕ, _+_, _-_, _≤_, _<_}
 use mathlib.Core.Path.{_≡_}
 use mathlib.Core.Bool.{Bool, true, not, _&&_}
 use mathlib.Core.List.{List, _++_}
@@ -19,6 +19,14 @@ linesIn s = s .lines + pick (eqb (s .long) 0) 0 1
 -- whether line j is marked as kept
 abbrev pub keptIn : State → List ℕ → ℕ → Bool
 keptIn s marks j = leb j (s .m) && not (eqb (getD marks j 0) 0)
+
+-- what the lines of the lost ones of k lines from line a are written with: room for them from i on, a mark for each column's line, and
+-- numbers that a word holds
+pub record LossesLent (out : List ℕ) (i : ℕ) (s : State) (marks : List ℕ) (a k : ℕ) : Type 0 where
+  pub room : i + length (lostText (keptIn s marks) a k) ≤ length out
+  pub columns : s .m ≤ 32
+  pub marked : 33 ≤ length marks
+  pub numbered : a + k < 18446744073709551615
 
 -- a good first line stands whole in what is held, so that the place of its number of columns is known
 pub record Opened (s : State) (room : List ℕ) : Type 0 where

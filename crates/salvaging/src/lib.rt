@@ -15,7 +15,7 @@ ghost use Rattle.fields.specs.Steps.{WroteOn};
 ghost use Rattle.gathering.specs.Lines.{noLines, after};
 ghost use Rattle.gathering.specs.Steps.{Held};
 ghost use Rattle.keeping.specs.Saved.{lostLine, lostText, salvaged, Laid};
-ghost use Rattle.keeping.specs.Steps.{keptIn, heldText};
+ghost use Rattle.keeping.specs.Steps.{keptIn, LossesLent, heldText};
 
 // Whether line j is marked as kept.
 fn is_kept(s: State, marks: &[u8], j: usize) -> bool
@@ -38,8 +38,7 @@ fn put_lost(out: &mut [u8], at: usize, kept: bool, number: u64) -> usize
 
 // Writes the lines of those of k lines from line a that are lost.
 pub fn put_losses(out: &mut [u8], at: usize, s: State, marks: &[u8], a: usize, k: usize) -> usize
-    requires { ⌜ (at + length (lostText (keptIn s (now marks)) a k) ≤ length (now out)) × (s .m ≤ 32) × (33 ≤ length (now marks))
-        × (a + k < 18446744073709551615) ⌝ }
+    requires { ⌜ LossesLent (now out) at s (now marks) a k ⌝ }
     ensures { λ r. ⌜ WroteOn (lostText (keptIn s (now (marks .entry))) a k) at (now (out .entry)) r (now (out .exit)) ⌝ }
 {
     let mut end = at;

@@ -35,17 +35,18 @@ put-losses-requires : tie.Need-put-losses-requires Inv-loop μ-loop
 put-losses-requires c κs =
     let at-some-of = c .before in
     let at-loop = at-some-of .before .before in
-    let at-start = at-loop .before .before in (
-      omega (
+    let at-start = at-loop .before .before in
+    record {
+      room = omega (
         arith,
         lost-most (keptIn (at-start .args .s) (at-start .args .marks .now)) (1 + at-loop .loop .i) (at-some-of .some-of .result),
         at-some-of .some-of .ensures .0,
         at-loop .loop .inv .1,
-      ),
-      at-start .pre .0,
-      at-start .pre .1,
-      omega (arith, at-some-of .some-of .ensures .1, at-start .pre .2),
-    )
+      );
+      columns = at-start .pre .0;
+      marked = at-start .pre .1;
+      numbered = omega (arith, at-some-of .some-of .ensures .1, at-start .pre .2);
+    }
 
 array-share-prefix-out : tie.Need-array-share-prefix-out Inv-loop μ-loop
 array-share-prefix-out c =

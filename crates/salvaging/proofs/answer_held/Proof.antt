@@ -87,12 +87,13 @@ put-losses-requires c κs =
     (length (at-start .args .answer .now) - at-put-front .put-front .result) (sym (at-losses-fit .losses-fit .ensures) ∙ not-false _ (at-if2 .if2 .left)) in
     let long = copied-long (frontIn (at-start .args .s) (at-start .args .room .now)) [] (at-start .args .answer .now) _ _ _
     (at-put-front .put-front .ensures) (at-copy-bytes .copy-bytes .last .0) (at-if1 .if1 .left)
-    (at-copy-bytes .copy-bytes .ensures) in (
-      omega (arith, long, fits, at-if1 .if1 .left),
-      reach e .columns,
-      e .marked,
-      omega (arith, at-judged-of .judged-of .ensures, judged-most (at-start .args .s), at-start .pre .1),
-    )
+    (at-copy-bytes .copy-bytes .ensures) in
+    record {
+      room = omega (arith, long, fits, at-if1 .if1 .left);
+      columns = reach e .columns;
+      marked = e .marked;
+      numbered = omega (arith, at-judged-of .judged-of .ensures, judged-most (at-start .args .s), at-start .pre .1);
+    }
 
 same-length : tie.Need-same-length
 same-length c = search needs

@@ -31,7 +31,7 @@ put-lost-requires c κs =
     let at-loop = at-is-kept .before .before in
     let at-start = at-loop .before .before .before in
     losing-room (at-is-kept .is-kept .result) (at-loop .loop .inv) (omega (arith, at-is-kept .before .loop-test .taken))
-    (at-is-kept .is-kept .ensures) (at-start .pre .0)
+    (at-is-kept .is-kept .ensures) (at-start .pre .room)
 
 add-i : tie.Need-add-i Inv-loop μ-loop
 add-i c = search needs
@@ -46,7 +46,7 @@ loop-again c =
     let at-loop = at-is-kept .before .before in
     let at-start = at-loop .before .before .before in
     losing-turn (at-is-kept .is-kept .result) (at-put-lost .put-lost .result) (at-put-lost .put-lost .last .0) (at-loop .loop .inv)
-    (omega (arith, at-is-kept .before .loop-test .taken)) (at-is-kept .is-kept .ensures) (at-start .pre .0)
+    (omega (arith, at-is-kept .before .loop-test .taken)) (at-is-kept .is-kept .ensures) (at-start .pre .room)
     (at-put-lost .put-lost .kept .0) (at-put-lost .put-lost .ensures)
 
 same-length : tie.Need-same-length Inv-loop μ-loop
