@@ -12,7 +12,7 @@ use rules::Rule;
 use sparsification::Job;
 use sparsification::thin;
 ghost use mathlib.Core.Path.{_≡_};
-ghost use Prim.Native.Nat.{_*_, _≤_};
+ghost use Prim.Native.Nat.{_≤_};
 ghost use lib.ListN.{length};
 ghost use Rattle.draw.specs.SplitMix.{seeded};
 ghost use Rattle.faults.specs.Faults.{editionFault};
@@ -20,6 +20,7 @@ ghost use Rattle.form.specs.Reading.{weightsOf, matrixOf};
 ghost use Rattle.keeping.specs.Saved.{Laid};
 ghost use Rattle.answering.specs.Steps.{Wrote};
 ghost use Rattle.asking.specs.Jobs.{sourceOf};
+ghost use Rattle.asking.specs.Lent.{JobLent};
 ghost use Rattle.words.specs.Words.{movedText, movedAnswer};
 
 // Thins, and writes the answer and, where the job is accepted, the words.
@@ -34,8 +35,7 @@ fn answer_job(
     rule: Rule,
     output: &mut [f64],
 ) -> usize
-    requires { ⌜ (m ≤ 32) × (n ≤ 64) × (length (now matrix) ≡ m * n) × (length (now weights) ≡ m) × (length (now output) ≡ m)
-        × (4094 ≤ length (now out)) × (editionFault edition ≡ 0) ⌝ }
+    requires { ⌜ JobLent 4094 m n (now matrix) (now weights) edition (now output) (now out) ⌝ }
     ensures { λ r. ⌜ Wrote (movedText rule (seeded seed edition) (now (matrix .entry)) m n (now (weights .entry)))
         (now (out .entry)) r (now (out .exit)) ⌝ }
 {

@@ -20,7 +20,7 @@ put-answer-requires : tie.Need-put-answer-requires
 put-answer-requires c κs =
     let at-thin = c .before .before .before .before .before .before in
     let at-start = at-thin .before .before .before .before .before .before .before .before in
-    omega (arith, at-start .pre .0, at-start .pre .4, at-start .pre .5, at-thin .thin .kept .1 .1 .1 .1 .1 .0)
+    omega (arith, at-start .pre .columns, at-start .pre .answered, at-start .pre .room, at-thin .thin .kept .1 .1 .1 .1 .1 .0)
 
 same-length : tie.Need-same-length
 same-length c = search needs
@@ -33,7 +33,8 @@ returns c =
     let at-put-answer = c .before .before in
     let at-thin = at-put-answer .before .before .before .before .before .before .before in
     let at-start = at-thin .before .before .before .before .before .before .before .before in
-    job-wrote _ _ _ (at-start .pre .6) (at-start .pre .0) (at-start .pre .1) (at-start .pre .2) (at-start .pre .3) (at-start .pre .4) refl refl
+    let lent = at-start .pre in
+    job-wrote _ _ _ (lent .known) (lent .columns) (lent .rows) (lent .entries) (lent .weighed) (lent .answered) refl refl
     (at-thin .thin .ensures) (at-put-answer .put-answer .ensures)
 
 pub answer-job-spec : {M : Type 1} → statement M

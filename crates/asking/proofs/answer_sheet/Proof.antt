@@ -81,17 +81,18 @@ answer-job-requires : tie.Need-answer-job-requires
 answer-job-requires c κs =
     let at-read-weights = c .before .before .before .before .before in
     let at-read-matrix = at-read-weights .before .before .before in
-    let at-start = at-read-matrix .before .before .before .before in (
-      at-start .pre .0,
-      at-start .pre .1,
-      sym (front-whole _ (at-read-matrix .read-matrix .last .0) _ (at-read-matrix .read-matrix .kept .0)
-          (omega (arith, few _ _ (at-start .pre .0) (at-start .pre .1)))),
-      sym (front-whole _ (at-read-weights .read-weights .last .0) _ (at-read-weights .read-weights .kept .0)
-          (omega (arith, at-start .pre .0))),
-      length-take-le _ _ (omega (arith, at-start .pre .0)),
-      at-start .pre .3,
-      at-start .pre .4,
-    )
+    let at-start = at-read-matrix .before .before .before .before in
+    record {
+      columns = at-start .pre .0;
+      rows = at-start .pre .1;
+      entries = sym (front-whole _ (at-read-matrix .read-matrix .last .0) _ (at-read-matrix .read-matrix .kept .0)
+          (omega (arith, few _ _ (at-start .pre .0) (at-start .pre .1))));
+      weighed = sym (front-whole _ (at-read-weights .read-weights .last .0) _ (at-read-weights .read-weights .kept .0)
+          (omega (arith, at-start .pre .0)));
+      answered = length-take-le _ _ (omega (arith, at-start .pre .0));
+      room = at-start .pre .3;
+      known = at-start .pre .4;
+    }
 
 same-length : tie.Need-same-length
 same-length c = search needs

@@ -35,7 +35,8 @@ returns c =
     let at-put-answer = c .before .before .before .before in
     let at-thin = at-put-answer .before .before .before .before .before .before .before in
     let at-start = at-thin .before .before .before .before .before .before .before .before in
-    job-refused (at-start .pre .6) (at-start .pre .0) (at-start .pre .1) (at-start .pre .2) (at-start .pre .3) (at-start .pre .4) refl refl
+    let lent = at-start .pre in
+    job-refused (lent .known) (lent .columns) (lent .rows) (lent .entries) (lent .weighed) (lent .answered) refl refl
     (at-thin .thin .ensures) (c .if1 .taken) (at-put-answer .put-answer .ensures)
 
 put-moves-requires : tie.Need-put-moves-requires
@@ -43,9 +44,10 @@ put-moves-requires c κs =
     let at-put-answer = c .before .before .before .before .before .before in
     let at-thin = at-put-answer .before .before .before .before .before .before .before in
     let at-start = at-thin .before .before .before .before .before .before .before .before in
+    let lent = at-start .pre in
     let ends = answer-ends (at-thin .thin .result) (at-thin .thin .last .1 .1 .1 .1 .1 .0) (at-put-answer .put-answer .ensures)
-    (omega (arith, at-thin .thin .kept .1 .1 .1 .1 .1 .0, at-start .pre .4, at-start .pre .0)) in
-    (at-start .pre .0, at-start .pre .1, at-start .pre .3, omega (arith, ends, at-start .pre .5, at-put-answer .put-answer .kept .0))
+    (omega (arith, at-thin .thin .kept .1 .1 .1 .1 .1 .0, lent .answered, lent .columns)) in
+    (lent .columns, lent .rows, lent .weighed, omega (arith, ends, lent .room, at-put-answer .put-answer .kept .0))
 
 same-length-3 : tie.Need-same-length-3
 same-length-3 c = search needs
@@ -59,9 +61,10 @@ returns-2 c =
     let at-put-answer = at-put-moves .before .before .before .before .before .before .before in
     let at-thin = at-put-answer .before .before .before .before .before .before .before in
     let at-start = at-thin .before .before .before .before .before .before .before .before in
-    job-accepted (at-start .pre .6) (at-start .pre .0) (at-start .pre .1) (at-start .pre .2) (at-start .pre .3) (at-start .pre .4) refl refl
-    (at-thin .thin .ensures) (at-put-moves .before .before .before .if1 .left) (at-start .pre .5)
-    (omega (arith, at-thin .thin .kept .1 .1 .1 .1 .1 .0, at-start .pre .4, at-start .pre .0))
+    let lent = at-start .pre in
+    job-accepted (lent .known) (lent .columns) (lent .rows) (lent .entries) (lent .weighed) (lent .answered) refl refl
+    (at-thin .thin .ensures) (at-put-moves .before .before .before .if1 .left) (lent .room)
+    (omega (arith, at-thin .thin .kept .1 .1 .1 .1 .1 .0, lent .answered, lent .columns))
     (at-put-answer .put-answer .ensures) (at-put-moves .put-moves .ensures)
 
 pub answer-job-spec : {M : Type 1} → statement M
