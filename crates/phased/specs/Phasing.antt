@@ -1,5 +1,5 @@
--- Told between functions: what stands in the scratch between two phases, and what a phase leaves.
-use Prim.Native.Nat.{ℕ}
+-- Told between functions: what stands in the scratch between two phases, the room that a phase is lent, and what it leaves.
+use Prim.Native.Nat.{ℕ, _+_, _≤_}
 use mathlib.Core.Path.{_≡_}
 use mathlib.Core.List.{List}
 use lib.ListN.{length, getD}
@@ -9,7 +9,7 @@ use Rattle.begin.specs.Begin.{begun}
 use Rattle.walked.specs.Walk.{Course, courseOf}
 use Rattle.walked.specs.declared.Phased.{Phased}
 use Rattle.places.specs.Places.{chosen, putBack}
-use Rattle.phased.specs.Phase.{Between}
+use Rattle.phased.specs.Phase.{Between, phased}
 use Rattle.blocking.specs.Held.{axIn}
 use Rattle.draw.specs.declared.SplitMix64.{SplitMix64}
 
@@ -32,3 +32,26 @@ pub record PhasedAt (a : ℕ → ℕ → Float) (rows : ℕ) (places : List ℕ)
   pub ax : axIn rows numbers' ≡ insideOf a rows places rng numbers x .walk .ax
   pub draws : r .at .rng ≡ insideOf a rows places rng numbers x .walk .rng
   pub counts : r .directions ≡ insideOf a rows places rng numbers x .directions
+
+-- the room for a phase on l columns: for what is chosen of them and for a direction, each as long as there are columns
+pub record RoomAtPlaces (l : ℕ) (cs : List ℕ) (ss xs : List Float) (fs : List ℕ) (ds : List Float) : Type 0 where
+  pub subcols : length cs ≡ l
+  pub subscale : length ss ≡ l
+  pub subx : length xs ≡ l
+  pub subfree : length fs ≡ l
+  pub g : length ds ≡ l
+
+-- the room for a phase on the free ones of k columns, however many those are: none of it is shorter than there are columns
+pub record RoomForAll (k : ℕ) (ps cs : List ℕ) (ss xs : List Float) (fs : List ℕ) (ds : List Float) : Type 0 where
+  pub places : k ≤ length ps
+  pub subcols : k ≤ length cs
+  pub subscale : k ≤ length ss
+  pub subx : k ≤ length xs
+  pub subfree : k ≤ length fs
+  pub g : k ≤ length ds
+
+-- one phase on the free ones of k columns was made, whatever number of directions was drawn before it
+pub record OnePhase (a : ℕ → ℕ → Float) (k rows : ℕ) (rng : SplitMix64) (numbers x : List Float) (free : List ℕ) (r : Phased)
+    (numbers' x' : List Float) (free' : List ℕ) : Type 0 where
+  pub goes : (d : ℕ) → between rows numbers' x' free' (r .at .rng) (d + r .directions)
+      ≡ phased plusZero a k rows (between rows numbers x free rng d)

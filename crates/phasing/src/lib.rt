@@ -9,16 +9,13 @@ use places::round_free;
 use seq::fill_words;
 use walk::phase;
 use walked::Phased;
-ghost use mathlib.Core.Path.{_≡_};
-ghost use Prim.Native.Nat.{ℕ, _≤_, _+_};
+ghost use Prim.Native.Nat.{_≤_};
 ghost use lib.ListN.{length};
-ghost use Rattle.seq.specs.Sums.{plusZero};
 ghost use Rattle.seq.specs.Indices.{Below};
 ghost use Rattle.chosen.specs.Entries.{entryOf};
 ghost use Rattle.chosen.specs.ChosenColumns.{Chosen};
 ghost use Rattle.blocking.specs.Held.{Roomy};
-ghost use Rattle.phased.specs.Phase.{phased};
-ghost use Rattle.phased.specs.Phasing.{between, PhasedAt};
+ghost use Rattle.phased.specs.Phasing.{RoomAtPlaces, RoomForAll, PhasedAt, OnePhase};
 
 // A phase on the columns at some places. The last five slices are room: for what is chosen there, and for a direction.
 fn phase_on(
@@ -41,9 +38,7 @@ fn phase_on(
 ) -> Phased
     requires { ⌜ Chosen (now matrix) (now bits) n (now cols) (now scale) (length (now blocked)) × Roomy (length (now cols)) (now numbers)
         (now blocked) (now x) (now free) 0 × Below (now places) (length (now cols)) × (length (now places) ≤ length (now cols)) ⌝ }
-    requires { ⌜ (length (now subcols) ≡ length (now places)) × (length (now subscale) ≡ length (now places)) ×
-        (length (now subx) ≡ length (now places))
-        × (length (now subfree) ≡ length (now places)) × (length (now g) ≡ length (now places)) ⌝ }
+    requires { ⌜ RoomAtPlaces (length (now places)) (now subcols) (now subscale) (now subx) (now subfree) (now g) ⌝ }
     ensures { λ r. ⌜ PhasedAt (entryOf (now (matrix .entry)) (now (bits .entry)) n (now (cols .entry)) (now (scale .entry)))
         (length (now (blocked .entry))) (now (places .entry)) rng (now (numbers .entry)) (now (x .entry))
         (now (free .entry)) r (now (numbers .exit)) (now (x .exit)) (now (free .exit)) ⌝ }
@@ -90,14 +85,10 @@ pub fn next_phase(
 ) -> Phased
     requires { ⌜ Chosen (now matrix) (now bits) n (now cols) (now scale) (length (now blocked)) × Roomy (length (now cols)) (now numbers)
         (now blocked) (now x) (now free) 0 ⌝ }
-    requires { ⌜ (length (now cols) ≤ length (now places)) × (length (now cols) ≤ length (now subcols)) ×
-        (length (now cols) ≤ length (now subscale))
-        × (length (now cols) ≤ length (now subx)) × (length (now cols) ≤ length (now subfree)) × (length (now cols) ≤ length (now g)) ⌝ }
-    ensures { λ r. ⌜ ((d : ℕ) → between (length (now (blocked .entry))) (now (numbers .exit)) (now (x .exit)) (now (free .exit))
-        (r .at .rng) (d + r .directions) ≡ phased plusZero
-        (entryOf (now (matrix .entry)) (now (bits .entry)) n (now (cols .entry)) (now (scale .entry))) (length (now (cols .entry)))
-        (length (now (blocked .entry))) (between (length (now (blocked .entry))) (now (numbers .entry)) (now (x .entry))
-        (now (free .entry)) rng d)) ⌝ }
+    requires { ⌜ RoomForAll (length (now cols)) (now places) (now subcols) (now subscale) (now subx) (now subfree) (now g) ⌝ }
+    ensures { λ r. ⌜ OnePhase (entryOf (now (matrix .entry)) (now (bits .entry)) n (now (cols .entry)) (now (scale .entry)))
+        (length (now (cols .entry))) (length (now (blocked .entry))) rng (now (numbers .entry)) (now (x .entry)) (now (free .entry)) r
+        (now (numbers .exit)) (now (x .exit)) (now (free .exit)) ⌝ }
 {
     let l = free_places(&mut places[..], &free[..]);
     let p = phase_on(

@@ -69,14 +69,14 @@ next-phase-requires c κs =
     let few = at-start .pre .0 .few in
     let r = at-loop .loop .inv .4 in (
       (rw (at-loop .loop .inv .2) (at-start .pre .0), at-loop .loop .inv .0),
-      (
-        omega (arith, few, r .places),
-        omega (arith, few, r .subcols),
-        omega (arith, few, r .subscale),
-        omega (arith, few, r .subx),
-        omega (arith, few, r .subfree),
-        omega (arith, few, r .g),
-      ),
+      record {
+        places = omega (arith, few, r .places);
+        subcols = omega (arith, few, r .subcols);
+        subscale = omega (arith, few, r .subscale);
+        subx = omega (arith, few, r .subx);
+        subfree = omega (arith, few, r .subfree);
+        g = omega (arith, few, r .g);
+      },
     )
 
 add-directions : tie.Need-add-directions Inv-loop μ-loop
@@ -87,7 +87,7 @@ add-directions c =
     let at-start = at-loop .before .before .before .before .before .before .before .before .before .before .before in
     let a = at-start .args in
     let l = at-loop .loop in
-    let step = rw (l .inv .2) at (at-next-phase .next-phase .ensures (l .directions)) in
+    let step = rw (l .inv .2) at (at-next-phase .next-phase .ensures .goes (l .directions)) in
     omega (
       arith,
       at-start .pre .0 .few,
@@ -109,7 +109,7 @@ loop-less c =
     let at-start = at-loop .before .before .before .before .before .before .before .before .before .before .before in
     let a = at-start .args in
     let l = at-loop .loop in
-    let step = rw (l .inv .2) at (at-next-phase .next-phase .ensures (l .directions)) in
+    let step = rw (l .inv .2) at (at-next-phase .next-phase .ensures .goes (l .directions)) in
     omega (
       arith,
       c .count-free2 .ensures,
@@ -128,7 +128,7 @@ loop-again c =
     let at-start = at-loop .before .before .before .before .before .before .before .before .before .before .before in
     let a = at-start .args in
     let l = at-loop .loop in
-    let step = rw (l .inv .2) at (at-next-phase .next-phase .ensures (l .directions)) in
+    let step = rw (l .inv .2) at (at-next-phase .next-phase .ensures .goes (l .directions)) in
     let kept = at-next-phase .next-phase .kept in (
       roomy-still _ _ _ _ _ _ _ _ _ (l .inv .0) (kept .0) (kept .1 .0) (kept .1 .1 .0) (kept .1 .1 .1 .0),
       kept .0 ∙ l .inv .1,

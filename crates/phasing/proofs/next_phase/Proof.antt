@@ -14,7 +14,7 @@ use Rattle.phasing.proofs.next_phase.Tie as tie
 free-places-requires : tie.Need-free-places-requires
 free-places-requires c κs =
     let p = c .before .before .before .before .before .before .before .before .before .before .before .before .before .before .before .before .pre in
-    (omega (arith, p .0 .1 .marks, p .1 .0), omega (arith, p .0 .1 .marks, p .0 .0 .few))
+    (omega (arith, p .0 .1 .marks, p .1 .places), omega (arith, p .0 .1 .marks, p .0 .0 .few))
 
 slice-reshare-prefix-phase-on : tie.Need-slice-reshare-prefix-phase-on
 slice-reshare-prefix-phase-on c = c .before .before .before .before .before .before .free-places .ensures .within
@@ -27,70 +27,70 @@ slice-relend-prefix-phase-on c =
     let f = c .before .before .before .before .before .before .before in
     let start = f .before .before .before .before .before .before .before .before .before .before .before .before .before .before .before .before .before in
     let few = places-few (start .args .free .now) _ _ (f .free-places .result) (start .pre .0 .1 .marks) (f .free-places .ensures) in
-    omega (arith, few, start .pre .1 .1)
+    omega (arith, few, start .pre .1 .subcols)
 
 slice-aggregate-phase-on-2 : tie.Need-slice-aggregate-phase-on-2
 slice-aggregate-phase-on-2 c =
     let f = c .before .before .before .before .before .before .before .before in
     let start = f .before .before .before .before .before .before .before .before .before .before .before .before .before .before .before .before .before in
     let few = places-few (start .args .free .now) _ _ (f .free-places .result) (start .pre .0 .1 .marks) (f .free-places .ensures) in
-    sym (length-take-le _ _ (omega (arith, few, start .pre .1 .1)))
+    sym (length-take-le _ _ (omega (arith, few, start .pre .1 .subcols)))
 
 slice-relend-prefix-phase-on-2 : tie.Need-slice-relend-prefix-phase-on-2
 slice-relend-prefix-phase-on-2 c =
     let f = c .before .before .before .before .before .before .before .before in
     let start = f .before .before .before .before .before .before .before .before .before .before .before .before .before .before .before .before .before in
     let few = places-few (start .args .free .now) _ _ (f .free-places .result) (start .pre .0 .1 .marks) (f .free-places .ensures) in
-    omega (arith, few, start .pre .1 .2)
+    omega (arith, few, start .pre .1 .subscale)
 
 slice-aggregate-phase-on-3 : tie.Need-slice-aggregate-phase-on-3
 slice-aggregate-phase-on-3 c =
     let f = c .before .before .before .before .before .before .before .before .before in
     let start = f .before .before .before .before .before .before .before .before .before .before .before .before .before .before .before .before .before in
     let few = places-few (start .args .free .now) _ _ (f .free-places .result) (start .pre .0 .1 .marks) (f .free-places .ensures) in
-    sym (length-take-le _ _ (omega (arith, few, start .pre .1 .2)))
+    sym (length-take-le _ _ (omega (arith, few, start .pre .1 .subscale)))
 
 slice-relend-prefix-phase-on-3 : tie.Need-slice-relend-prefix-phase-on-3
 slice-relend-prefix-phase-on-3 c =
     let f = c .before .before .before .before .before .before .before .before .before in
     let start = f .before .before .before .before .before .before .before .before .before .before .before .before .before .before .before .before .before in
     let few = places-few (start .args .free .now) _ _ (f .free-places .result) (start .pre .0 .1 .marks) (f .free-places .ensures) in
-    omega (arith, few, start .pre .1 .3)
+    omega (arith, few, start .pre .1 .subx)
 
 slice-aggregate-phase-on-4 : tie.Need-slice-aggregate-phase-on-4
 slice-aggregate-phase-on-4 c =
     let f = c .before .before .before .before .before .before .before .before .before .before in
     let start = f .before .before .before .before .before .before .before .before .before .before .before .before .before .before .before .before .before in
     let few = places-few (start .args .free .now) _ _ (f .free-places .result) (start .pre .0 .1 .marks) (f .free-places .ensures) in
-    sym (length-take-le _ _ (omega (arith, few, start .pre .1 .3)))
+    sym (length-take-le _ _ (omega (arith, few, start .pre .1 .subx)))
 
 slice-relend-prefix-phase-on-4 : tie.Need-slice-relend-prefix-phase-on-4
 slice-relend-prefix-phase-on-4 c =
     let f = c .before .before .before .before .before .before .before .before .before .before in
     let start = f .before .before .before .before .before .before .before .before .before .before .before .before .before .before .before .before .before in
     let few = places-few (start .args .free .now) _ _ (f .free-places .result) (start .pre .0 .1 .marks) (f .free-places .ensures) in
-    omega (arith, few, start .pre .1 .4)
+    omega (arith, few, start .pre .1 .subfree)
 
 slice-aggregate-phase-on-5 : tie.Need-slice-aggregate-phase-on-5
 slice-aggregate-phase-on-5 c =
     let f = c .before .before .before .before .before .before .before .before .before .before .before in
     let start = f .before .before .before .before .before .before .before .before .before .before .before .before .before .before .before .before .before in
     let few = places-few (start .args .free .now) _ _ (f .free-places .result) (start .pre .0 .1 .marks) (f .free-places .ensures) in
-    sym (length-take-le _ _ (omega (arith, few, start .pre .1 .4)))
+    sym (length-take-le _ _ (omega (arith, few, start .pre .1 .subfree)))
 
 slice-relend-prefix-phase-on-5 : tie.Need-slice-relend-prefix-phase-on-5
 slice-relend-prefix-phase-on-5 c =
     let f = c .before .before .before .before .before .before .before .before .before .before .before in
     let start = f .before .before .before .before .before .before .before .before .before .before .before .before .before .before .before .before .before in
     let few = places-few (start .args .free .now) _ _ (f .free-places .result) (start .pre .0 .1 .marks) (f .free-places .ensures) in
-    omega (arith, few, start .pre .1 .5)
+    omega (arith, few, start .pre .1 .g)
 
 slice-aggregate-phase-on-6 : tie.Need-slice-aggregate-phase-on-6
 slice-aggregate-phase-on-6 c =
     let f = c .before .before .before .before .before .before .before .before .before .before .before .before in
     let start = f .before .before .before .before .before .before .before .before .before .before .before .before .before .before .before .before .before in
     let few = places-few (start .args .free .now) _ _ (f .free-places .result) (start .pre .0 .1 .marks) (f .free-places .ensures) in
-    sym (length-take-le _ _ (omega (arith, few, start .pre .1 .5)))
+    sym (length-take-le _ _ (omega (arith, few, start .pre .1 .g)))
 
 phase-on-requires : tie.Need-phase-on-requires
 phase-on-requires c κs =
@@ -102,13 +102,13 @@ phase-on-requires c κs =
     let b = places-below (start .args .free .now) _ (length (start .args .cols .now)) (f .free-places .result)
     (start .pre .0 .1 .marks) (f .free-places .ensures) in (
       (start .pre .0 .0, start .pre .0 .1, b .0, b .1),
-      (
-        length-take-le _ _ (omega (arith, few, start .pre .1 .1)) ∙ long,
-        length-take-le _ _ (omega (arith, few, start .pre .1 .2)) ∙ long,
-        length-take-le _ _ (omega (arith, few, start .pre .1 .3)) ∙ long,
-        length-take-le _ _ (omega (arith, few, start .pre .1 .4)) ∙ long,
-        length-take-le _ _ (omega (arith, few, start .pre .1 .5)) ∙ long,
-      ),
+      record {
+        subcols = length-take-le _ _ (omega (arith, few, start .pre .1 .subcols)) ∙ long;
+        subscale = length-take-le _ _ (omega (arith, few, start .pre .1 .subscale)) ∙ long;
+        subx = length-take-le _ _ (omega (arith, few, start .pre .1 .subx)) ∙ long;
+        subfree = length-take-le _ _ (omega (arith, few, start .pre .1 .subfree)) ∙ long;
+        g = length-take-le _ _ (omega (arith, few, start .pre .1 .g)) ∙ long;
+      },
     )
 
 round-free-requires : tie.Need-round-free-requires
@@ -166,7 +166,7 @@ same-length-10 : tie.Need-same-length-10
 same-length-10 c = search needs
 
 returns : tie.Need-returns
-returns c = λ d.
+returns c =
     let at-round-free = c .before .before .before .before .before .before in
     let at-if1 = at-round-free .before .before .before in
     let at-phase-on = at-if1 .before .before .before .before .before .before .before .before .before .before .before .before
@@ -175,11 +175,13 @@ returns c = λ d.
     let start = at-free-places .before .before .before .before .before .before .before .before .before .before .before .before
     .before .before .before .before .before in
     let a = start .args in
-    phase-rounds (entryOf (a .matrix .now) (a .bits .now) (a .n) (a .cols .now) (a .scale .now)) (length (a .cols .now)) (length (a .blocked .now))
-    (a .rng) (a .numbers .now) (a .x .now) (a .free .now) _ _ _ _ _
-    (at-free-places .free-places .ensures .front ∙ ap (keep (isSet (a .free .now))) (start .pre .0 .1 .marks))
-    (at-phase-on .phase-on .ensures) d _ _ (at-if1 .if1 .taken) (at-round-free .round-free .ensures)
-    (c .before .before .fill-words .ensures)
+    record {
+      goes = λ d. phase-rounds (entryOf (a .matrix .now) (a .bits .now) (a .n) (a .cols .now) (a .scale .now)) (length (a .cols .now))
+          (length (a .blocked .now)) (a .rng) (a .numbers .now) (a .x .now) (a .free .now) _ _ _ _ _
+          (at-free-places .free-places .ensures .front ∙ ap (keep (isSet (a .free .now))) (start .pre .0 .1 .marks))
+          (at-phase-on .phase-on .ensures) d _ _ (at-if1 .if1 .taken) (at-round-free .round-free .ensures)
+          (c .before .before .fill-words .ensures);
+    }
 
 same-length-11 : tie.Need-same-length-11
 same-length-11 c = search needs
@@ -216,17 +218,19 @@ same-length-20 : tie.Need-same-length-20
 same-length-20 c = search needs
 
 returns-2 : tie.Need-returns-2
-returns-2 c = λ d.
+returns-2 c =
     let at-phase-on = c .before .before .before .before .before .before .before .before .before .before .before .before .before
     .before .before .before .before .before .before .before in
     let at-free-places = at-phase-on .before .before .before .before .before .before .before .before .before .before .before .before .before in
     let start = at-free-places .before .before .before .before .before .before .before .before .before .before .before .before
     .before .before .before .before .before in
     let a = start .args in
-    phase-goes (entryOf (a .matrix .now) (a .bits .now) (a .n) (a .cols .now) (a .scale .now)) (length (a .cols .now)) (length (a .blocked .now))
-    (a .rng) (a .numbers .now) (a .x .now) (a .free .now) _ _ _ _ _
-    (at-free-places .free-places .ensures .front ∙ ap (keep (isSet (a .free .now))) (start .pre .0 .1 .marks))
-    (at-phase-on .phase-on .ensures) d (c .if1 .left)
+    record {
+      goes = λ d. phase-goes (entryOf (a .matrix .now) (a .bits .now) (a .n) (a .cols .now) (a .scale .now)) (length (a .cols .now))
+          (length (a .blocked .now)) (a .rng) (a .numbers .now) (a .x .now) (a .free .now) _ _ _ _ _
+          (at-free-places .free-places .ensures .front ∙ ap (keep (isSet (a .free .now))) (start .pre .0 .1 .marks))
+          (at-phase-on .phase-on .ensures) d (c .if1 .left);
+    }
 
 pub next-phase-spec : {M : Type 1} → statement M
 next-phase-spec =

@@ -11,19 +11,19 @@ use Rattle.phasing.proofs.phase_on.Tie as tie
 choose-words-requires : tie.Need-choose-words-requires
 choose-words-requires c κs =
     let start = c .before .before .before .before .before .before .before .before .before .before .before .before .before .before .before in
-    (start .pre .1 .0, start .pre .0 .2)
+    (start .pre .1 .subcols, start .pre .0 .2)
 
 choose-requires : tie.Need-choose-requires
 choose-requires c κs =
     let start = c .before .before .before .before .before .before .before .before .before .before .before .before .before .before
     .before .before .before .before .before in
-    (start .pre .1 .1, rw (start .pre .0 .0 .paired) (start .pre .0 .2))
+    (start .pre .1 .subscale, rw (start .pre .0 .0 .paired) (start .pre .0 .2))
 
 choose-requires-2 : tie.Need-choose-requires-2
 choose-requires-2 c κs =
     let start = c .before .before .before .before .before .before .before .before .before .before .before .before .before .before
     .before .before .before .before .before .before .before .before .before .before in
-    (start .pre .1 .2, rw (start .pre .0 .1 .wide) (start .pre .0 .2))
+    (start .pre .1 .subx, rw (start .pre .0 .1 .wide) (start .pre .0 .2))
 
 phase-requires : tie.Need-phase-requires
 phase-requires c κs =
@@ -33,13 +33,13 @@ phase-requires c κs =
     let start = at-choose-words .before .before .before .before .before .before .before .before .before
     .before .before .before .before .before .before .before in
     let a = start .args in
-    let lc = at-choose-words .choose-words .kept .0 ∙ start .pre .1 .0 in
-    let lx = at-choose2 .choose2 .kept .0 ∙ start .pre .1 .2 in (
+    let lc = at-choose-words .choose-words .kept .0 ∙ start .pre .1 .subcols in
+    let lx = at-choose2 .choose2 .kept .0 ∙ start .pre .1 .subx in (
       rw (at-choose-words .choose-words .ensures, at-choose .choose .ensures)
           (chosen-part (a .matrix .now) (a .bits .now) (a .n) (a .cols .now) (a .scale .now) (a .places .now) _ (start .pre .0 .0) (start .pre .0 .2)
           (start .pre .0 .3)),
-      rw lc (roomy-part _ (length (a .places .now)) _ _ _ _ _ _ (start .pre .0 .1) (start .pre .0 .3) lx (start .pre .1 .3)),
-      start .pre .1 .4 ∙ sym lc,
+      rw lc (roomy-part _ (length (a .places .now)) _ _ _ _ _ _ (start .pre .0 .1) (start .pre .0 .3) lx (start .pre .1 .subfree)),
+      start .pre .1 .g ∙ sym lc,
     )
 
 put-back-requires : tie.Need-put-back-requires
@@ -48,7 +48,7 @@ put-back-requires c κs =
     let at-choose2 = at-phase .before .before .before .before .before .before .before .before .before .before in
     let start = at-choose2 .before .before .before .before .before .before .before .before .before .before .before .before .before
     .before .before .before .before .before .before .before .before .before .before .before .before in
-    (at-phase .phase .kept .1 .1 .0 ∙ at-choose2 .choose2 .kept .0 ∙ start .pre .1 .2, rw (start .pre .0 .1 .wide) (start .pre .0 .2))
+    (at-phase .phase .kept .1 .1 .0 ∙ at-choose2 .choose2 .kept .0 ∙ start .pre .1 .subx, rw (start .pre .0 .1 .wide) (start .pre .0 .2))
 
 put-back-words-requires : tie.Need-put-back-words-requires
 put-back-words-requires c κs =
@@ -56,7 +56,7 @@ put-back-words-requires c κs =
     let start = at-phase .before .before .before .before .before .before .before .before .before .before .before .before .before
     .before .before .before .before .before .before .before .before .before .before .before .before .before .before .before
     .before .before .before .before .before .before .before in
-    (at-phase .phase .kept .1 .1 .1 .0 ∙ start .pre .1 .3, rw (start .pre .0 .1 .marks) (start .pre .0 .2))
+    (at-phase .phase .kept .1 .1 .1 .0 ∙ start .pre .1 .subfree, rw (start .pre .0 .1 .marks) (start .pre .0 .2))
 
 same-length : tie.Need-same-length
 same-length c = search needs
