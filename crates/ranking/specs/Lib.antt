@@ -1,2 +1,3 @@
--- The order by magnitude.
+-- The order by magnitude, and what its functions tell each other.
 pub mod Ranking
+pub mod Given

@@ -9,7 +9,7 @@ rank-into-requires : tie.Need-rank-into-requires
 rank-into-requires c κs =
     let a = c .before .before .before .before .before .before .before .before .before .args in
     let v = c .before .before .before .before .before .before .before .before .before .pre in
-    (v .3, support-below (a .w .now) (a .some .now) (v .2), v .0 .few, v .2)
+    record { long = v .3; inside = support-below (a .w .now) (a .some .now) (v .2); few = v .0 .few; whole = v .2 }
 
 kept-count-requires : tie.Need-kept-count-requires
 kept-count-requires c κs = search needs
