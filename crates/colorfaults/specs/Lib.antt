@@ -1,2 +1,3 @@
--- What a direct colouring answers and leaves.
+-- What a direct colouring answers and leaves, and what it is lent.
 pub mod Discrepancy
+pub mod Lent

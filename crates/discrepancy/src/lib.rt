@@ -9,17 +9,13 @@ use seq::clear;
 use seq::clear_words;
 use seq::count_up;
 use seq::fill;
-ghost use mathlib.Core.Path.{_≡_};
-ghost use mathlib.Core.Bool.{true};
-ghost use Prim.Native.Nat.{_≤_, _*_, _+_};
-ghost use lib.ListN.{length};
 ghost use Rattle.seq.specs.Sums.{plusZero};
 ghost use Rattle.colored.specs.Coloring.{coloringOf};
 ghost use Rattle.colored.specs.Fresh.{ColoredAs};
 ghost use Rattle.draw.specs.SplitMix.{seeded};
-ghost use Rattle.limits.specs.Limits.{bounded};
-ghost use Rattle.limits.specs.Reading.{readOf, Whole};
-ghost use Rattle.colorfaults.specs.Discrepancy.{mostEntry, DiscrepancyColored};
+ghost use Rattle.limits.specs.Reading.{readOf};
+ghost use Rattle.colorfaults.specs.Discrepancy.{DiscrepancyColored};
+ghost use Rattle.colorfaults.specs.Lent.{ColoringLent};
 
 // Colours all m columns into x. The matrix is read as it is: every scale is 1.0.
 pub fn color_all(
@@ -32,9 +28,7 @@ pub fn color_all(
     numbers: &mut [f64],
     indices: &mut [u32],
 ) -> Counted
-    requires { ⌜ Whole (now matrix) (now bits) m n × (m ≤ 256) × (n ≤ 4096) × (length (now x) ≡ m)
-        × (n + n + n + m * m ≤ length (now numbers))
-        × (n ≤ length (now indices)) × (bounded mostEntry (now matrix) ≡ true) ⌝ }
+    requires { ⌜ ColoringLent (now matrix) (now bits) m n (now x) (now numbers) (now indices) ⌝ }
     ensures { λ r. ⌜ ColoredAs (now (x .exit)) r (coloringOf plusZero (readOf (now (matrix .entry)) (now (bits .entry)) n) m n
         (seeded seed 1)) ⌝ }
 {

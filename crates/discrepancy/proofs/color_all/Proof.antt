@@ -17,41 +17,41 @@ array-borrow-prefix-cols : tie.Need-array-borrow-prefix-cols
 array-borrow-prefix-cols c = search needs
 
 slice-aggregate-count-up : tie.Need-slice-aggregate-count-up
-slice-aggregate-count-up c = sym (length-take-le _ _ (c .before .before .before .before .before .before .pre .1))
+slice-aggregate-count-up c = sym (length-take-le _ _ (c .before .before .before .before .before .before .pre .columns))
 
 count-up-requires : tie.Need-count-up-requires
 count-up-requires c κs =
     let at-start = c .before .before .before .before .before .before in
-    front-few (at-start .args .m) 4294967296 _ (omega (arith, at-start .pre .1))
+    front-few (at-start .args .m) 4294967296 _ (omega (arith, at-start .pre .columns))
 
 array-borrow-prefix-scale : tie.Need-array-borrow-prefix-scale
 array-borrow-prefix-scale c = search needs
 
 slice-aggregate-fill : tie.Need-slice-aggregate-fill
-slice-aggregate-fill c = sym (length-take-le _ _ (c .before .before .before .before .before .before .before .before .before .pre .1))
+slice-aggregate-fill c = sym (length-take-le _ _ (c .before .before .before .before .before .before .before .before .before .pre .columns))
 
 fill-requires : tie.Need-fill-requires
 fill-requires c κs = search needs
 
 array-share-prefix-cols : tie.Need-array-share-prefix-cols
 array-share-prefix-cols c = filled-long (λ i. i) _ _ _
-    (c .before .before .before .before .before .before .before .before .before .before .before .pre .1)
+    (c .before .before .before .before .before .before .before .before .before .before .before .pre .columns)
     (c .before .before .before .before .count-up .ensures)
 
 slice-aggregate-coloring : tie.Need-slice-aggregate-coloring
 slice-aggregate-coloring c =
     let at-count-up = c .before .before .before .before .before in
     let at-start = at-count-up .before .before .before .before .before .before .before in
-    sym (length-take-le _ _ (filled-long (λ i. i) _ _ _ (at-start .pre .1) (at-count-up .count-up .ensures)))
+    sym (length-take-le _ _ (filled-long (λ i. i) _ _ _ (at-start .pre .columns) (at-count-up .count-up .ensures)))
 
 array-share-prefix-scale : tie.Need-array-share-prefix-scale
 array-share-prefix-scale c = filled-long (λ i. one) _ _ _
-    (c .before .before .before .before .before .before .before .before .before .before .before .before .pre .1)
+    (c .before .before .before .before .before .before .before .before .before .before .before .before .pre .columns)
     (c .before .before .fill .ensures)
 
 slice-aggregate-coloring-2 : tie.Need-slice-aggregate-coloring-2
 slice-aggregate-coloring-2 c = sym (length-take-le _ _ (filled-long (λ i. one) _ _ _
-    (c .before .before .before .before .before .before .before .before .before .before .before .before .before .pre .1)
+    (c .before .before .before .before .before .before .before .before .before .before .before .before .before .pre .columns)
     (c .before .before .before .fill .ensures)))
 
 slice-relend-prefix-coloring : tie.Need-slice-relend-prefix-coloring
@@ -59,7 +59,7 @@ slice-relend-prefix-coloring c = search needs
 
 slice-aggregate-coloring-3 : tie.Need-slice-aggregate-coloring-3
 slice-aggregate-coloring-3 c = sym (length-take-le _ _ (c .before .before .before .before .before .before .before .before .before
-    .before .before .before .before .before .before .before .pre .5))
+    .before .before .before .before .before .before .before .pre .words))
 
 new-requires : tie.Need-new-requires
 new-requires c κs = search needs
@@ -72,12 +72,12 @@ coloring-requires c κs =
     let at-start = at-shared-slice-known .before in
     let indices : List ℕ = take (at-start .args .n) (at-start .args .indices .now) in
     own-asked (at-start .args .matrix .now) (at-start .args .bits .now) (at-start .args .m) (at-start .args .n) _ _ indices
-    (at-start .pre .0)
-    (filled-back (λ i. i) _ _ _ (at-start .pre .1) (at-count-up .count-up .ensures))
-    (filled-back (λ i. one) _ _ _ (at-start .pre .1) (at-fill .fill .ensures))
-    (length-take-le (at-start .args .n) (at-start .args .indices .now) (at-start .pre .5))
-    (at-start .args .x .now) (at-start .args .numbers .now) (at-start .pre .1) (at-start .pre .2)
-    (at-shared-slice-known .shared-slice-known .given) (at-start .pre .6) (at-start .pre .3) (at-start .pre .4)
+    (at-start .pre .whole)
+    (filled-back (λ i. i) _ _ _ (at-start .pre .columns) (at-count-up .count-up .ensures))
+    (filled-back (λ i. one) _ _ _ (at-start .pre .columns) (at-fill .fill .ensures))
+    (length-take-le (at-start .args .n) (at-start .args .indices .now) (at-start .pre .words))
+    (at-start .args .x .now) (at-start .args .numbers .now) (at-start .pre .columns) (at-start .pre .rows)
+    (at-shared-slice-known .shared-slice-known .given) (at-start .pre .within) (at-start .pre .colours) (at-start .pre .floats)
 
 same-length : tie.Need-same-length
 same-length c = search needs
@@ -99,10 +99,10 @@ returns c =
     let indices : List ℕ = take (at-start .args .n) (at-start .args .indices .now) in
     subst (ColoredAs _ _)
     (own-left (at-start .args .matrix .now) (at-start .args .bits .now) (at-start .args .m) (at-start .args .n) _ _ indices
-    (at-start .pre .0)
-    (filled-back (λ i. i) _ _ _ (at-start .pre .1) (at-count-up .count-up .ensures))
-    (filled-back (λ i. one) _ _ _ (at-start .pre .1) (at-fill .fill .ensures))
-    (length-take-le (at-start .args .n) (at-start .args .indices .now) (at-start .pre .5))
+    (at-start .pre .whole)
+    (filled-back (λ i. i) _ _ _ (at-start .pre .columns) (at-count-up .count-up .ensures))
+    (filled-back (λ i. one) _ _ _ (at-start .pre .columns) (at-fill .fill .ensures))
+    (length-take-le (at-start .args .n) (at-start .args .indices .now) (at-start .pre .words))
     (at-shared-slice-known .shared-slice-known .given) _ _ (at-new .new .ensures))
     (at-coloring .coloring .ensures)
 

@@ -31,7 +31,15 @@ slice-aggregate-color-all-2 c =
 color-all-requires : tie.Need-color-all-requires
 color-all-requires c κs =
     let a = accepted _ _ _ _ _ _ (sym (c .before .before .before .before .before .coloring-fault .ensures) ∙ c .before .before .before .before .if1 .left) in
-    (record { doubles = λ e. a .area; votes = λ h. absurd (omega arith) }, a .columns, a .rows, length-take-le _ _ (a .columns), a .floats, a .words, a .within)
+    record {
+      whole = record { doubles = λ e. a .area; votes = λ h. absurd (omega arith) };
+      columns = a .columns;
+      rows = a .rows;
+      colours = length-take-le _ _ (a .columns);
+      floats = a .floats;
+      words = a .words;
+      within = a .within;
+    }
 
 array-share-prefix-x : tie.Need-array-share-prefix-x
 array-share-prefix-x c =

@@ -35,7 +35,15 @@ unfolding allTo
 color-all-requires c κs =
     let at-if1 = c .before .before .before .before in
     let a = accepted _ _ _ _ _ _ (sym (at-if1 .before .bits-coloring-fault .ensures) ∙ at-if1 .if1 .left) in
-    (bits-whole _ _ _ (a .area), a .columns, a .rows, length-take-le _ _ (a .columns), a .floats, a .words, refl)
+    record {
+      whole = bits-whole _ _ _ (a .area);
+      columns = a .columns;
+      rows = a .rows;
+      colours = length-take-le _ _ (a .columns);
+      floats = a .floats;
+      words = a .words;
+      within = refl;
+    }
 
 array-share-prefix-x : tie.Need-array-share-prefix-x
 array-share-prefix-x c =
