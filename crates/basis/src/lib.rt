@@ -6,9 +6,8 @@ ghost use Prim.Native.Nat.{_≤_, _*_, _+_};
 ghost use lib.ListN.{length};
 ghost use Rattle.seq.specs.Lists.{tabulate};
 ghost use Rattle.seq.specs.Sums.{plusZero};
-ghost use Rattle.linear.specs.Vectors.{dotOf};
 ghost use Rattle.basis.specs.Basis.{lessAt, passTo, projected, overAt};
-ghost use Rattle.basis.specs.Held.{vectorsIn, Inserted};
+ghost use Rattle.basis.specs.Held.{vectorsIn, LessAndAlong, Inserted};
 
 // One pass over the first count vectors, each l long. While v loses its part along one vector, its part along the next is summed.
 fn pass(basis: &[f64], count: usize, l: usize, v: &mut [f64])
@@ -35,9 +34,7 @@ fn pass(basis: &[f64], count: usize, l: usize, v: &mut [f64])
 // v - c q, and what is left of v along r.
 fn less_then_dot(v: &mut [f64], c: f64, q: &[f64], r: &[f64]) -> f64
     requires { ⌜ (length (now v) ≡ length (now q)) × (length (now r) ≡ length (now q)) ⌝ }
-    ensures { λ s. ⌜ (now (v .exit) ≡ tabulate (lessAt c (now (q .entry)) (now (v .entry))) (length (now (v .entry)))) × (s
-        ≡ dotOf plusZero (now (r .entry))
-        (tabulate (lessAt c (now (q .entry)) (now (v .entry))) (length (now (v .entry))))) ⌝ }
+    ensures { λ s. ⌜ LessAndAlong plusZero (now (v .entry)) c (now (q .entry)) (now (r .entry)) s (now (v .exit)) ⌝ }
 {
     let mut along = 0.0;
     let mut i = 0usize;

@@ -18,6 +18,7 @@ use Rattle.linear.specs.Vectors.{normOf}
 use Rattle.basis.specs.Basis.{projected}
 use Rattle.direction.specs.Direction.{degenerate, zeroed, directed, tooShort}
 use Rattle.direction.specs.Step.{reachTo, along, alongAt}
+use Rattle.direction.specs.Directing.{DirectedFrom}
 
 -- the turns of the loop that looks for the largest step
 module _ (x g : List Float) (free : List ℕ) (k : ℕ) (r : Float) (so-far : r ≡ reachTo x g free k) where
@@ -52,8 +53,8 @@ module _ (t : Float) (rows i : ℕ) (both v : List Float) (half : length both �
 -- a direction, from what its pieces give
 pub directs : (z : Float) (basis : List (List Float)) (free : List ℕ) (g p q : List Float) (before after : Float)
     → before ≡ normOf z g → p ≡ projected z basis g → q ≡ zeroed free p → after ≡ normOf z q
-    → (q ≡ directed z basis free g) × (le after (mul binary64 degenerate before) ≡ tooShort z g (directed z basis free g))
+    → DirectedFrom z basis free g (le after (mul binary64 degenerate before)) q
 unfolding directed tooShort
 directs z basis free g p q before after eb ep eq ea =
     let e : q ≡ zeroed free (projected z basis g) = eq ∙ ap (zeroed free) ep in
-    (e, rw (ea, eb, e))
+    record { left = e; short = rw (ea, eb, e) }

@@ -1,3 +1,4 @@
 -- A direction of the walk, and the step along it.
 pub mod Direction
 pub mod Step
+pub mod Directing

@@ -7,7 +7,8 @@ ghost use Prim.Native.Nat.{_≤_, _*_, _+_};
 ghost use lib.ListN.{length};
 ghost use Rattle.seq.specs.Sums.{plusZero};
 ghost use Rattle.basis.specs.Held.{vectorsIn};
-ghost use Rattle.direction.specs.Direction.{afterDraws, drawn, zeroed, directed, tooShort};
+ghost use Rattle.direction.specs.Direction.{afterDraws, drawn, zeroed};
+ghost use Rattle.direction.specs.Directing.{DirectedFrom};
 
 // Fills g with draws; the generator after them.
 pub fn draw_into(g: &mut [f64], rng: SplitMix64) -> SplitMix64
@@ -45,9 +46,8 @@ fn zero_frozen(g: &mut [f64], free: &[u32])
 // Projects the draws in g and zeroes them at the frozen places; whether too little is left.
 pub fn direct(basis: &[f64], count: usize, l: usize, free: &[u32], g: &mut [f64]) -> bool
     requires { ⌜ (length (now g) ≡ l) × (length (now free) ≡ l) × (count * l ≤ length (now basis)) ⌝ }
-    ensures { λ r. ⌜ (now (g .exit) ≡ directed plusZero (vectorsIn l count (now (basis .entry))) (now (free .entry)) (now (g .entry)))
-        × (r ≡ tooShort plusZero (now (g .entry))
-        (directed plusZero (vectorsIn l count (now (basis .entry))) (now (free .entry)) (now (g .entry)))) ⌝ }
+    ensures { λ r. ⌜ DirectedFrom plusZero (vectorsIn l count (now (basis .entry))) (now (free .entry)) (now (g .entry)) r
+        (now (g .exit)) ⌝ }
 {
     let drawn_norm = norm(&g[..]);
     project_out(basis, count, l, g);

@@ -74,12 +74,13 @@ unfolding dotOf
 returns c =
     let a = c .before .before .args in
     let l = c .before .loop in
-    let all : l .i ≡ length (a .r .now) = omega (arith, c .before .before .pre .0, c .before .before .pre .1, l .inv .0 .long, l .inv .0 .upto) in (
-      whole (l .inv .0) (omega arith),
-      l .inv .1 ∙ rw all (sum-cong binary64 plusZero _ _ (length (a .r .now))
+    let all : l .i ≡ length (a .r .now) = omega (arith, c .before .before .pre .0, c .before .before .pre .1, l .inv .0 .long, l .inv .0 .upto) in
+    record {
+      less = whole (l .inv .0) (omega arith);
+      along = l .inv .1 ∙ rw all (sum-cong binary64 plusZero _ _ (length (a .r .now))
           (λ j h. ap (mul binary64 (at (a .r .now) j))
-          (sym (getD-tab (lessAt (a .c) (a .q .now) (a .v .now)) (length (a .v .now)) j nan (omega arith))))),
-    )
+          (sym (getD-tab (lessAt (a .c) (a .q .now) (a .v .now)) (length (a .v .now)) j nan (omega arith)))));
+    }
 
 pub less-then-dot-spec : {M : Type 1} → statement M
 less-then-dot-spec =

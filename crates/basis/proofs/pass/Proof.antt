@@ -128,12 +128,12 @@ loop-again : tie.Need-loop-again Inv-loop μ-loop
 loop-again c =
     let a = c .before .before .before .before .before .before .before .before .before .before .before .before .before .before .args in
     let l = c .before .before .before .before .before .before .before .loop in
-    let less = simp add-sub-cancel-left at (c .before .before .less-then-dot .ensures .0) in
+    let less = simp add-sub-cancel-left at (c .before .before .less-then-dot .ensures .less) in
     let next : l .k * a .l + a .l ≡ (l .k + 1) * a .l = omega arith in (
       c .before .before .before .before .before .before .loop-test .taken,
       c .before .before .less-then-dot .kept .0 ∙ l .inv .1,
       pass-turn (a .l) (a .count) (l .k) (a .basis .now) (a .v .now) (l .v) _ (l .c) (l .inv .0) (l .inv .2) (l .inv .3) less,
-      simp add-sub-cancel-left at (c .before .before .less-then-dot .ensures .1)
+      simp add-sub-cancel-left at (c .before .before .less-then-dot .ensures .along)
           ∙ ap (dotOf plusZero (part (l .k * a .l + a .l) (a .l) (a .basis .now))) (sym less)
           ∙ ap (λ (x : ℕ). dotOf plusZero (part x (a .l) (a .basis .now)) (c .before .before .less-then-dot .last .0)) next,
     )

@@ -81,7 +81,7 @@ returns c =
     stops-short e l (a .numbers .now) (a .blocked .now) (a .x .now) (a .free .now) (a .from .count) (a .from .frozen)
     (a .from .rng) (r + r + r + m - (r + r + r)) (a .g .now) (at-draw-into .draw-into .last .0)
     (at-direct .direct .last .1 .1 .1 .1 .0) (at-direct .direct .result) (p .1) (omega arith) (p .2)
-    (at-draw-into .draw-into .ensures .0) (at-direct .direct .ensures .0) (at-direct .direct .ensures .1) _ (c .if1 .taken)
+    (at-draw-into .draw-into .ensures .0) (at-direct .direct .ensures .left) (at-direct .direct .ensures .short) _ (c .if1 .taken)
     refl refl refl (at-draw-into .draw-into .ensures .1)
 
 advance-requires : tie.Need-advance-requires
@@ -120,7 +120,7 @@ returns-2 c =
     stops-nowhere e l (a .numbers .now) (a .blocked .now) (a .x .now) (a .free .now) (a .from .count) (a .from .frozen)
     (a .from .rng) (r + r + r + m - (r + r + r)) (a .g .now) (at-draw-into .draw-into .last .0)
     (at-direct .direct .last .1 .1 .1 .1 .0) (at-direct .direct .result) (p .1) (omega arith) (p .2)
-    (at-draw-into .draw-into .ensures .0) (at-direct .direct .ensures .0) (at-direct .direct .ensures .1)
+    (at-draw-into .draw-into .ensures .0) (at-direct .direct .ensures .left) (at-direct .direct .ensures .short)
     (at-advance .advance .result) (at-advance .advance .last .0) (at-advance .advance .last .1 .1 .0)
     (at-advance .advance .ensures) (at-if1 .if1 .left) _ (not-true _ (c .if2 .taken)) refl refl refl
     (at-draw-into .draw-into .ensures .1)
@@ -178,7 +178,7 @@ returns-3 c =
     moves-on e l (a .numbers .now) (a .blocked .now) (a .x .now) (a .free .now) (a .from .count) (a .from .frozen)
     (a .from .rng) (r + r + r + m - (r + r + r)) (a .g .now) (at-draw-into .draw-into .last .0)
     (at-direct .direct .last .1 .1 .1 .1 .0) (at-direct .direct .result) (p .1) (omega arith) (p .2)
-    (at-draw-into .draw-into .ensures .0) (at-direct .direct .ensures .0) (at-direct .direct .ensures .1)
+    (at-draw-into .draw-into .ensures .0) (at-direct .direct .ensures .left) (at-direct .direct .ensures .short)
     (at-advance .advance .result) (at-advance .advance .last .0) (at-advance .advance .last .1 .1 .0)
     (at-advance .advance .ensures) (at-if1 .if1 .left)
     _ (at-freeze .freeze .last .0) (at-freeze .freeze .last .1 .1 .0) (at-freeze .freeze .last .1 .1 .1 .0)
