@@ -22,7 +22,7 @@ use Rattle.chosen.specs.ChosenColumns.{Chosen}
 use Rattle.chosen.specs.Rows.{rowOf}
 use Rattle.order.specs.Order.{worstTo}
 use Rattle.blocking.specs.Freeze.{freezeLimit, Walk, axis, freezes, blocking, frozenAt, freezeTo}
-use Rattle.blocking.specs.Held.{axIn, basisIn, held, Roomy, worstIn, roomFor, Blocked}
+use Rattle.blocking.specs.Held.{axIn, basisIn, held, Roomy, worstIn, roomFor, Blocked, FreezesOne}
 use Rattle.blocking.proofs.Scratch.{rest-is, back-rest, back-front, walk-path}
 use Rattle.draw.specs.declared.SplitMix64.{SplitMix64}
 use Rattle.draw.specs.SplitMix.{seeded}
@@ -121,10 +121,9 @@ module _ (a : ℕ → ℕ → Float) (l : ℕ) (numbers : List Float) (blocked :
   pub freezes-at : (v : List Float) → v ≡ axis l p → s ≡ signumOf (at x p)
       → Inserted plusZero count l (part lent (length numbers - lent) numbers) v c ys
       → Blocked a l num1 blocked c r numbers' blocked' → length blocked' ≡ n
-      → (frozen : ℕ) (rng : SplitMix64) → held numbers' blocked' (set x p s) (set free p 0) r (frozen + 1) rng ≡ frozenAt plusZero a l n
-      (held numbers blocked x free count frozen rng) p
+      → FreezesOne a l numbers blocked x free count p r numbers' blocked' (set x p s) (set free p 0)
   unfolding frozenAt
-  freezes-at v ev es given b lb frozen rng =
+  freezes-at v ev es given b lb =
       let o : Inserted plusZero count l (part lent (length numbers - lent) numbers) (axis l p) c ys = rw ev at given in
       let within : lent ≤ length numbers = omega (arith, room .room) in
       let ax1 : axIn n num1 ≡ axIn n numbers = back-front lent numbers ys within n (omega arith) in
@@ -132,17 +131,19 @@ module _ (a : ℕ → ℕ → Float) (l : ℕ) (numbers : List Float) (blocked :
       ap (λ (k : ℕ). inserted plusZero l (vectorsIn k count (drop lent numbers)) (axis l p)) (sym (room .wide)) in
       let ec : c ≡ length grown = offered-count l count c lent numbers (axis l p) ys within o ∙ ap length wide in
       let eb : basisIn n l c num1 ≡ grown = offered-basis l count c lent numbers (axis l p) ys within o ∙ wide in
-      walk-path (ap (set x p) es) refl refl
-      (ap (λ (k : ℕ). axIn k numbers') lb ∙ b .ax ∙ ax1)
-      (b .marks
-      ∙ ap₂ (λ (ax : List Float) (k : ℕ). pick (ltb (worstTo ax blocked n n) n && ltb k l) (set blocked (worstTo ax blocked n n) 1) blocked) ax1 ec)
-      (ap₂ (λ (k m : ℕ). basisIn k m r numbers') lb (length-set x p s ∙ room .wide)
-      ∙ b .basis
-      ∙ ap₂ (λ (ax : List Float) (k : ℕ). pick (ltb (worstTo ax blocked n n) n && ltb k l)
-      (blocking plusZero a l (worstTo ax blocked n n) (basisIn n l c num1)) (basisIn n l c num1)) ax1 ec
-      ∙ ap (λ (q : List (List Float)). pick (ltb (worstTo (axIn n numbers) blocked n n) n && ltb (length grown) l)
-      (blocking plusZero a l (worstTo (axIn n numbers) blocked n n) q) q) eb)
-      refl
+      record {
+        holds = λ frozen rng. walk-path (ap (set x p) es) refl refl
+            (ap (λ (k : ℕ). axIn k numbers') lb ∙ b .ax ∙ ax1)
+            (b .marks
+            ∙ ap₂ (λ (ax : List Float) (k : ℕ). pick (ltb (worstTo ax blocked n n) n && ltb k l) (set blocked (worstTo ax blocked n n) 1) blocked) ax1 ec)
+            (ap₂ (λ (k m : ℕ). basisIn k m r numbers') lb (length-set x p s ∙ room .wide)
+            ∙ b .basis
+            ∙ ap₂ (λ (ax : List Float) (k : ℕ). pick (ltb (worstTo ax blocked n n) n && ltb k l)
+            (blocking plusZero a l (worstTo ax blocked n n) (basisIn n l c num1)) (basisIn n l c num1)) ax1 ec
+            ∙ ap (λ (q : List (List Float)). pick (ltb (worstTo (axIn n numbers) blocked n n) n && ltb (length grown) l)
+            (blocking plusZero a l (worstTo (axIn n numbers) blocked n n) q) q) eb)
+            refl;
+      }
 
 -- ---- a basis never has more than l vectors
 
@@ -245,8 +246,7 @@ module _ (a : ℕ → ℕ → Float) (l : ℕ) (numbers₀ : List Float) (blocke
     pub freezing-one : (numbers' : List Float) (blocked' : List ℕ) (x' : List Float) (free' : List ℕ) (v' : List Float) (r : ℕ)
         → ((rng : SplitMix64) → freezes (held numbers blocked x free count frozen rng) p ≡ true)
         → length numbers' ≡ length numbers → length blocked' ≡ length blocked → length x' ≡ length x → length free' ≡ length free → length v' ≡ length v
-        → ((frozen : ℕ) (rng : SplitMix64) → held numbers' blocked' x' free' r (frozen + 1) rng ≡ frozenAt plusZero a l (length blocked)
-        (held numbers blocked x free count frozen rng) p)
+        → FreezesOne a l numbers blocked x free count p r numbers' blocked' x' free'
         → Freezing a l numbers₀ blocked₀ x₀ free₀ v₀ count₀ frozen₀ numbers' blocked' x' free' v' r (frozen + 1) (p + 1)
     freezing-one numbers' blocked' x' free' v' r f ln lb lx lf lv h =
         let n : ℕ = length blocked₀ in
@@ -254,7 +254,7 @@ module _ (a : ℕ → ℕ → Float) (l : ℕ) (numbers₀ : List Float) (blocke
         let step : (rng : SplitMix64) → held numbers' blocked' x' free' r (frozen + 1) rng ≡ freezeTo plusZero a l n (w rng) (p + 1) =
         λ rng. freeze-one plusZero a l n (w rng) (held numbers blocked x free count frozen rng) (held numbers' blocked' x' free' r (frozen + 1) rng) p
         (i .holds rng)
-        (f rng) (h frozen rng ∙ ap (λ (k : ℕ). frozenAt plusZero a l k (held numbers blocked x free count frozen rng) p) (i .rows)) in
+        (f rng) (h .holds frozen rng ∙ ap (λ (k : ℕ). frozenAt plusZero a l k (held numbers blocked x free count frozen rng) p) (i .rows)) in
         let q : Roomy l numbers blocked x free count = i .roomy in
         let any : SplitMix64 = seeded 0 1 in
         record {

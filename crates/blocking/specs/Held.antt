@@ -11,7 +11,7 @@ use Rattle.seq.specs.Lists.{part}
 use Rattle.seq.specs.Sums.{plusZero}
 use Rattle.basis.specs.Held.{vectorsIn}
 use Rattle.order.specs.Order.{worstTo}
-use Rattle.blocking.specs.Freeze.{Walk, blocking}
+use Rattle.blocking.specs.Freeze.{Walk, blocking, frozenAt, freezeTo}
 use Rattle.draw.specs.declared.SplitMix64.{SplitMix64}
 
 -- A x and A g, of so many rows
@@ -60,3 +60,15 @@ pub record Blocked (a : ℕ → ℕ → Float) (l : ℕ) (numbers : List Float) 
   pub basis : basisIn (length blocked) l r numbers'
       ≡ pick (roomFor numbers blocked l count) (blocking plusZero a l (worstIn numbers blocked) (basisIn (length blocked) l count numbers))
       (basisIn (length blocked) l count numbers)
+
+-- coordinate p froze: the scratch holds the walk after that, with r vectors, whatever number froze before it and whatever the generator is
+pub record FreezesOne (a : ℕ → ℕ → Float) (l : ℕ) (numbers : List Float) (blocked : List ℕ) (x : List Float) (free : List ℕ) (count p r : ℕ)
+    (numbers' : List Float) (blocked' : List ℕ) (x' : List Float) (free' : List ℕ) : Type 0 where
+  pub holds : (frozen : ℕ) (rng : SplitMix64) → held numbers' blocked' x' free' r (frozen + 1) rng
+      ≡ frozenAt plusZero a l (length blocked) (held numbers blocked x free count frozen rng) p
+
+-- all l coordinates were looked at, and those at the limit froze: the scratch holds the walk after that, whatever the generator is
+pub record FreezesAll (a : ℕ → ℕ → Float) (l : ℕ) (numbers : List Float) (blocked : List ℕ) (x : List Float) (free : List ℕ)
+    (count frozen count' frozen' : ℕ) (numbers' : List Float) (blocked' : List ℕ) (x' : List Float) (free' : List ℕ) : Type 0 where
+  pub holds : (rng : SplitMix64) → held numbers' blocked' x' free' count' frozen' rng
+      ≡ freezeTo plusZero a l (length blocked) (held numbers blocked x free count frozen rng) l

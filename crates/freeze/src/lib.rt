@@ -2,14 +2,11 @@
 use ieee::abs;
 use snapping::freeze_at;
 ghost use mathlib.Core.Path.{_≡_};
-ghost use Prim.Native.Nat.{_≤_, _<_, _+_};
+ghost use Prim.Native.Nat.{_≤_};
 ghost use lib.ListN.{length};
-ghost use Rattle.seq.specs.Sums.{plusZero};
-ghost use Rattle.blocking.specs.Freeze.{freezeTo};
 ghost use Rattle.chosen.specs.Entries.{entryOf};
 ghost use Rattle.chosen.specs.ChosenColumns.{Chosen};
-ghost use Rattle.blocking.specs.Held.{held, Roomy};
-ghost use Rattle.draw.specs.declared.SplitMix64.{SplitMix64};
+ghost use Rattle.blocking.specs.Held.{Roomy, FreezesAll};
 
 // How many vectors the basis has, and how many coordinates froze in this phase.
 pub struct Frozen {
@@ -33,11 +30,9 @@ pub fn freeze(
 ) -> Frozen
     requires { ⌜ Chosen (now matrix) (now bits) n (now cols) (now scale) (length (now blocked)) × Roomy (length (now cols)) (now numbers)
         (now blocked) (now x) (now free) (from .count) × (length (now v) ≡ length (now cols)) × (from .frozen ≤ 256) ⌝ }
-    ensures { λ r. ⌜ ((rng : SplitMix64) → held (now (numbers .exit)) (now (blocked .exit)) (now (x .exit)) (now (free .exit))
-        (r .count) (r .frozen) rng ≡ freezeTo plusZero
-        (entryOf (now (matrix .entry)) (now (bits .entry)) n (now (cols .entry)) (now (scale .entry))) (length (now (cols .entry)))
-        (length (now (blocked .entry))) (held (now (numbers .entry)) (now (blocked .entry)) (now (x .entry))
-        (now (free .entry)) (from .count) (from .frozen) rng) (length (now (cols .entry)))) ⌝ }
+    ensures { λ r. ⌜ FreezesAll (entryOf (now (matrix .entry)) (now (bits .entry)) n (now (cols .entry)) (now (scale .entry)))
+        (length (now (cols .entry))) (now (numbers .entry)) (now (blocked .entry)) (now (x .entry)) (now (free .entry)) (from .count)
+        (from .frozen) (r .count) (r .frozen) (now (numbers .exit)) (now (blocked .exit)) (now (x .exit)) (now (free .exit)) ⌝ }
 {
     let mut count = from.count;
     let mut frozen = from.frozen;

@@ -4,14 +4,12 @@ use blocking::block_worst;
 use ieee::signum;
 use seq::clear;
 ghost use mathlib.Core.Path.{_≡_};
-ghost use Prim.Native.Nat.{ℕ, _<_, _+_};
+ghost use Prim.Native.Nat.{_<_};
 ghost use lib.ListN.{length};
-ghost use Rattle.seq.specs.Sums.{plusZero};
-ghost use Rattle.blocking.specs.Freeze.{axis, frozenAt};
+ghost use Rattle.blocking.specs.Freeze.{axis};
 ghost use Rattle.chosen.specs.Entries.{entryOf};
 ghost use Rattle.chosen.specs.ChosenColumns.{Chosen};
-ghost use Rattle.blocking.specs.Held.{held, Roomy};
-ghost use Rattle.draw.specs.declared.SplitMix64.{SplitMix64};
+ghost use Rattle.blocking.specs.Held.{Roomy, FreezesOne};
 
 // The vector with 1.0 at p.
 fn axis_into(v: &mut [f64], p: usize)
@@ -39,11 +37,9 @@ pub fn freeze_at(
 ) -> usize
     requires { ⌜ Chosen (now matrix) (now bits) n (now cols) (now scale) (length (now blocked)) × Roomy (length (now cols)) (now numbers)
         (now blocked) (now x) (now free) count × (length (now v) ≡ length (now cols)) × (p < length (now cols)) ⌝ }
-    ensures { λ r. ⌜ ((frozen : ℕ) (rng : SplitMix64) → held (now (numbers .exit)) (now (blocked .exit)) (now (x .exit))
-        (now (free .exit)) r
-        (frozen + 1) rng ≡ frozenAt plusZero (entryOf (now (matrix .entry)) (now (bits .entry)) n (now (cols .entry)) (now (scale .entry)))
-        (length (now (cols .entry))) (length (now (blocked .entry)))
-        (held (now (numbers .entry)) (now (blocked .entry)) (now (x .entry)) (now (free .entry)) count frozen rng) p) ⌝ }
+    ensures { λ r. ⌜ FreezesOne (entryOf (now (matrix .entry)) (now (bits .entry)) n (now (cols .entry)) (now (scale .entry)))
+        (length (now (cols .entry))) (now (numbers .entry)) (now (blocked .entry)) (now (x .entry)) (now (free .entry)) count p r
+        (now (numbers .exit)) (now (blocked .exit)) (now (x .exit)) (now (free .exit)) ⌝ }
 {
     x[p] = signum(x[p]);
     free[p] = 0;

@@ -19,7 +19,7 @@ use Rattle.direction.specs.Direction.{afterDraws, drawn, directed, tooShort, up
 use Rattle.direction.specs.Step.{reachTo, moved, along}
 use Rattle.blocking.specs.Freeze.{Walk, freezeTo}
 use Rattle.walked.specs.Walk.{stepOf, steppedAlong, advanced}
-use Rattle.blocking.specs.Held.{axIn, basisIn, held, Roomy}
+use Rattle.blocking.specs.Held.{axIn, basisIn, held, Roomy, FreezesAll}
 use Rattle.advance.specs.Advancing.{Advanced}
 use Rattle.walked.specs.Walking.{StepHolds}
 use Rattle.walked.specs.declared.Went.{Went}
@@ -119,7 +119,7 @@ module _ (a : ℕ → ℕ → Float) (l : ℕ) (numbers : List Float) (blocked :
 
     -- the step is made, and coordinates freeze
     pub moves-on : (o : Went) (numbers' : List Float) (blocked' : List ℕ) (x' : List Float) (free' : List ℕ) (c f : ℕ) → r ≡ true → length x1 ≡ length x
-        → ((q : SplitMix64) → held numbers' blocked' x' free' c f q ≡ freezeTo plusZero a l n (held numbers1 blocked x1 free count frozen q) l)
+        → FreezesAll a l numbers1 blocked x1 free count frozen c f numbers' blocked' x' free'
         → o .more ≡ ltb frozen f → o .at .count ≡ c → o .at .frozen ≡ f → o .at .rng ≡ afterDraws rng (length g)
         → StepHolds numbers' blocked' x' free' o (stepOf plusZero a l n w)
     unfolding stepOf steppedAlong
@@ -135,7 +135,7 @@ module _ (a : ℕ → ℕ → Float) (l : ℕ) (numbers : List Float) (blocked :
         ∙ ap₂ (λ (j : ℕ) (v : List Float). along (reachOf j v) (axIn n numbers) (turned (upOf j v) (times plusZero a j n v))) way-long way-is in
         let moved-is : held numbers1 blocked x1 free count frozen rng' ≡ next =
         walk-path ex refl refl ea refl (same-basis lx count refl) (er ∙ ap (afterDraws rng) lg) in
-        let frozen-is : held numbers' blocked' x' free' c f rng' ≡ freezeTo plusZero a l n next l = h rng' ∙ ap
+        let frozen-is : held numbers' blocked' x' free' c f rng' ≡ freezeTo plusZero a l n next l = h .holds rng' ∙ ap
         (λ (v : Walk). freezeTo plusZero a l n v l) moved-is in
         record {
           more = rw (long-way, t) (em ∙ ap (λ (v : Walk). ltb frozen (v .frozen)) frozen-is);

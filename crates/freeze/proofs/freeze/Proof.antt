@@ -108,9 +108,11 @@ returns c =
     let a = at-start .args in
     let s = c .before .loop in
     let done : s .p ≡ length (a .cols .now) = omega (arith, s .inv .upto) in
-    λ rng. s .inv .holds rng ∙ ap (freezeTo plusZero (entryOf (a .matrix .now) (a .bits .now) (a .n) (a .cols .now) (a .scale .now))
-    (length (a .cols .now)) (length (a .blocked .now))
-    (held (a .numbers .now) (a .blocked .now) (a .x .now) (a .free .now) (a .from .count) (a .from .frozen) rng)) done
+    record {
+      holds = λ rng. s .inv .holds rng ∙ ap (freezeTo plusZero (entryOf (a .matrix .now) (a .bits .now) (a .n) (a .cols .now) (a .scale .now))
+          (length (a .cols .now)) (length (a .blocked .now))
+          (held (a .numbers .now) (a .blocked .now) (a .x .now) (a .free .now) (a .from .count) (a .from .frozen) rng)) done;
+    }
 
 pub freeze-spec : {M : Type 1} → statement M
 freeze-spec =
