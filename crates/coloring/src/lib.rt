@@ -10,16 +10,12 @@ ghost use mathlib.Core.Path.{_≡_};
 ghost use Prim.Native.Nat.{_≤_, _*_, _+_};
 ghost use lib.ListN.{length};
 ghost use Rattle.seq.specs.Sums.{plusZero};
-ghost use Rattle.chosen.specs.Rows.{times};
-ghost use Rattle.flipping.specs.Search.{searched};
-ghost use Rattle.flipping.specs.Searching.{searchedIn};
 ghost use Rattle.walked.specs.Walk.{freeOnes};
-ghost use Rattle.colored.specs.Coloring.{walked, coloringOf};
+ghost use Rattle.colored.specs.Coloring.{coloringOf};
 ghost use Rattle.chosen.specs.Entries.{entryOf};
 ghost use Rattle.chosen.specs.ChosenColumns.{Chosen};
 ghost use Rattle.blocking.specs.Held.{Roomy};
-ghost use Rattle.phased.specs.Phasing.{between};
-ghost use Rattle.colored.specs.Fresh.{Fresh, ColoredAs};
+ghost use Rattle.colored.specs.Fresh.{Fresh, WalkedAs, SearchedAs, ColoredAs};
 
 // How many directions were drawn, and the generator after them.
 struct Drawn {
@@ -58,10 +54,9 @@ fn walk_to_end(
 ) -> Drawn
     requires { ⌜ Chosen (now matrix) (now bits) n (now cols) (now scale) (length (now blocked)) × Roomy (length (now cols)) (now numbers)
         (now blocked) (now x) (now free) 0 × Fresh (length (now cols)) (length (now blocked)) (now numbers) (now x) (now free) ⌝ }
-    ensures { λ r. ⌜ between (length (now (blocked .entry))) (now (numbers .exit)) (now (x .exit)) (now (free .exit))
-        (r .rng) (r .directions) ≡ walked plusZero (entryOf (now (matrix .entry)) (now (bits .entry)) n (now (cols .entry))
-        (now (scale .entry)))
-        (length (now (cols .entry))) (length (now (blocked .entry))) rng ⌝ }
+    ensures { λ r. ⌜ WalkedAs (entryOf (now (matrix .entry)) (now (bits .entry)) n (now (cols .entry)) (now (scale .entry)))
+        (length (now (cols .entry))) (length (now (blocked .entry))) rng (now (numbers .exit)) (now (x .exit)) (now (free .exit))
+        (r .rng) (r .directions) ⌝ }
 {
     let mut places = [0u32; 256];
     let mut subcols = [0u32; 256];
@@ -114,10 +109,9 @@ fn walk_anew(
 ) -> Drawn
     requires { ⌜ Chosen (now matrix) (now bits) n (now cols) (now scale) (length (now blocked)) × Roomy (length (now cols)) (now numbers)
         (now blocked) (now x) (now free) 0 ⌝ }
-    ensures { λ r. ⌜ between (length (now (blocked .entry))) (now (numbers .exit)) (now (x .exit)) (now (free .exit))
-        (r .rng) (r .directions) ≡ walked plusZero (entryOf (now (matrix .entry)) (now (bits .entry)) n (now (cols .entry))
-        (now (scale .entry)))
-        (length (now (cols .entry))) (length (now (blocked .entry))) rng ⌝ }
+    ensures { λ r. ⌜ WalkedAs (entryOf (now (matrix .entry)) (now (bits .entry)) n (now (cols .entry)) (now (scale .entry)))
+        (length (now (cols .entry))) (length (now (blocked .entry))) rng (now (numbers .exit)) (now (x .exit)) (now (free .exit))
+        (r .rng) (r .directions) ⌝ }
 {
     let rows = blocked.len();
     clear(&mut x[..]);
@@ -137,11 +131,8 @@ fn search_anew(
     scale: &[f64],
 ) -> usize
     requires { ⌜ Chosen (now matrix) (now bits) n (now cols) (now scale) (length (now ax)) × (length (now x) ≡ length (now cols)) ⌝ }
-    ensures { λ r. ⌜ searchedIn (now (x .exit)) r ≡ searched
-        (entryOf (now (matrix .entry)) (now (bits .entry)) n (now (cols .entry)) (now (scale .entry)))
-        (length (now (cols .entry))) (now (x .entry)) (times plusZero
-        (entryOf (now (matrix .entry)) (now (bits .entry)) n (now (cols .entry)) (now (scale .entry))) (length (now (cols .entry)))
-        (length (now (ax .entry))) (now (x .entry))) ⌝ }
+    ensures { λ r. ⌜ SearchedAs (entryOf (now (matrix .entry)) (now (bits .entry)) n (now (cols .entry)) (now (scale .entry)))
+        (length (now (cols .entry))) (length (now (ax .entry))) (now (x .entry)) (now (x .exit)) r ⌝ }
 {
     times_into(&mut ax[..], matrix, bits, n, cols, scale, &x[..]);
     local_search(ax, x, matrix, bits, n, cols, scale)

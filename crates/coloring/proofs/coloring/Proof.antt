@@ -53,7 +53,7 @@ returns c =
     let m : length (take (length (a .blocked .now)) (at-walk-anew .walk-anew .last .0)) ≡ length (a .blocked .now) =
     length-take-le _ _ (omega (arith, at-walk-anew .walk-anew .kept .0)) in
     colors (entryOf (a .matrix .now) (a .bits .now) (a .n) (a .cols .now) (a .scale .now)) (length (a .cols .now)) (length (a .blocked .now))
-    (a .rng) _ _ _ _ _ _ _ (at-walk-anew .walk-anew .ensures) refl m (at-search-anew .search-anew .ensures)
+    (a .rng) _ _ _ _ _ _ _ (at-walk-anew .walk-anew .ensures .ends) refl m (at-search-anew .search-anew .ensures .ends)
 
 pub coloring-spec : {M : Type 1} → statement M
 coloring-spec =

@@ -27,9 +27,11 @@ returns c =
     let at-times-into = at-local-search .before .before .before .before .before in
     let at-start = at-times-into .before .before .before .before .before .before .before .before .before in
     let a = at-start .args in
-    at-local-search .local-search .ensures ∙ ap
-    (searched (entryOf (a .matrix .now) (a .bits .now) (a .n) (a .cols .now) (a .scale .now)) (length (a .cols .now)) (a .x .now))
-    (at-times-into .times-into .ensures)
+    record {
+      ends = at-local-search .local-search .ensures ∙ ap
+          (searched (entryOf (a .matrix .now) (a .bits .now) (a .n) (a .cols .now) (a .scale .now)) (length (a .cols .now)) (a .x .now))
+          (at-times-into .times-into .ensures);
+    }
 
 pub search-anew-spec : {M : Type 1} → statement M
 search-anew-spec =

@@ -171,8 +171,11 @@ returns c =
     let at-start = c .before .before .before .before .before .before .before .before .before .before .before .before in
     let a = at-start .args in
     let l = c .before .loop in
-    sym (l .inv .5 ∙ walk-over plusZero (entryOf (a .matrix .now) (a .bits .now) (a .n) (a .cols .now) (a .scale .now)) (length (a .cols .now))
-    (length (a .blocked .now)) (between (length (a .blocked .now)) (l .numbers) (l .x) (l .free) (l .r) (l .directions)) (omega arith))
+    record {
+      ends = sym
+          (l .inv .5 ∙ walk-over plusZero (entryOf (a .matrix .now) (a .bits .now) (a .n) (a .cols .now) (a .scale .now)) (length (a .cols .now))
+          (length (a .blocked .now)) (between (length (a .blocked .now)) (l .numbers) (l .x) (l .free) (l .r) (l .directions)) (omega arith));
+    }
 
 pub walk-to-end-spec : {M : Type 1} → statement M
 walk-to-end-spec =
