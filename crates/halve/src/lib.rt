@@ -6,14 +6,13 @@ use doubling::remaining_into;
 use doubling::scales_into;
 use doubling::sigma_of;
 ghost use mathlib.Core.Path.{_≡_};
-ghost use Prim.Native.Nat.{suc, _≤_};
+ghost use Prim.Native.Nat.{_≤_};
 ghost use lib.ListN.{length};
 ghost use Rattle.seq.specs.Sums.{plusZero};
 ghost use Rattle.seq.specs.Indices.{Below};
-ghost use Rattle.colored.specs.Coloring.{coloringOf};
 ghost use Rattle.limits.specs.Reading.{readOf};
-ghost use Rattle.halved.specs.Halve.{scaledColumns, halvedBy, halvedOnce};
-ghost use Rattle.halved.specs.Handed.{halvesOf, Equipped, Ready, Countable};
+ghost use Rattle.halved.specs.Halve.{halvedOnce};
+ghost use Rattle.halved.specs.Handed.{halvesOf, Equipped, Ready, Countable, HalvesSome};
 
 // Colours some indices and halves their weights; the tally with the colouring added. scale, x and blocked are scratch.
 fn halve_some(
@@ -31,9 +30,8 @@ fn halve_some(
 ) -> Counted
     requires { ⌜ Equipped (now matrix) (now bits) n (now w) (now some) (now scale) (now x) (now numbers) (now blocked)
         × Countable tally 1 ⌝ }
-    ensures { λ r. ⌜ halvesOf (now (w .exit)) r ≡ halvedBy (halvesOf (now (w .entry)) tally) (now (some .entry)) (coloringOf plusZero
-        (scaledColumns (readOf (now (matrix .entry)) (now (bits .entry)) n) n (now (w .entry)) omega (now (some .entry)))
-        (length (now (some .entry))) (suc n) (tally .rng)) ⌝ }
+    ensures { λ r. ⌜ HalvesSome (readOf (now (matrix .entry)) (now (bits .entry)) n) n (now (w .entry)) omega (now (some .entry)) tally
+        (now (w .exit)) r ⌝ }
 {
     let rng = tally.rng;
     scales_into(&mut scale[..], &w[..], omega, some);

@@ -1,5 +1,5 @@
 -- Told between functions: what a halving is handed, and what it leaves.
-use Prim.Native.Nat.{ℕ, _+_, _*_, _≤_}
+use Prim.Native.Nat.{ℕ, suc, _+_, _*_, _≤_}
 use mathlib.Core.Path.{_≡_}
 use mathlib.Core.Bool.{true}
 use mathlib.Core.List.{List}
@@ -8,8 +8,10 @@ use lib.Ieee.{Float}
 use Rattle.limits.specs.Limits.{bounded}
 use Rattle.limits.specs.Reading.{Whole}
 use Rattle.ieee.specs.Constants.{one}
+use Rattle.seq.specs.Sums.{plusZero}
 use Rattle.seq.specs.Indices.{Below}
-use Rattle.halved.specs.Halve.{Halved}
+use Rattle.colored.specs.Coloring.{coloringOf}
+use Rattle.halved.specs.Halve.{scaledColumns, Halved, halvedBy}
 use Rattle.colored.specs.declared.Counted.{Counted}
 
 -- a colouring of some indices has its columns and its scratch
@@ -43,3 +45,9 @@ pub record Countable (c : Counted) (more : ℕ) : Type 0 where
 -- weights, a generator and what was counted
 abbrev pub halvesOf : List Float → Counted → Halved
 halvesOf w c = record { w = w; rng = c .rng; directions = c .directions; sweeps = c .sweeps }
+
+-- some indices were coloured and their weights halved by the colours: w' are the weights after that, and r is the tally c with it added
+pub record HalvesSome (a : ℕ → ℕ → Float) (n : ℕ) (w : List Float) (omega : Float) (some : List ℕ) (c : Counted) (w' : List Float)
+    (r : Counted) : Type 0 where
+  pub leaves : halvesOf w' r ≡ halvedBy (halvesOf w c) some
+      (coloringOf plusZero (scaledColumns a n w omega some) (length some) (suc n) (c .rng))

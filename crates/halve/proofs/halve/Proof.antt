@@ -78,7 +78,7 @@ returns-2 c =
     let a = at-start .args in
     let p = at-remaining-into .remaining-into .ensures in
     halve-some (readOf (a .matrix .now) (a .bits .now) (a .n)) (a .n) (a .omega) (a .rest .now) (halvesOf (a .w .now) (a .tally))
-    (λ e. at-if1 .if1 .left (sym (p .long) ∙ e)) _ (rw (p .front) at (at-halve-some .halve-some .ensures))
+    (λ e. at-if1 .if1 .left (sym (p .long) ∙ e)) _ (rw (p .front) at (at-halve-some .halve-some .ensures .leaves))
 
 pub halve-spec : {M : Type 1} → statement M
 halve-spec =

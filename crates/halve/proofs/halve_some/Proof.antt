@@ -90,9 +90,12 @@ returns c =
     let at-start = at-scales-into .before .before .before .before .before .before .before .before .before .before .before .before in
     let a = at-start .args in
     let v = at-start .pre .0 in
-    halved-by (a .matrix .now) (a .bits .now) (a .n) (a .w .now) (a .omega) (a .some .now) (v .whole) (v .inside .below) (a .tally .rng) _ _ _ _
-    _ (at-coloring .coloring .result) (a .tally .directions) (a .tally .sweeps) (at-scales-into .scales-into .ensures) (v .rows)
-    (at-coloring .coloring .ensures) (at-sigma-of .sigma-of .ensures) (at-double-or-zero .double-or-zero .ensures)
+    record {
+      leaves = halved-by (a .matrix .now) (a .bits .now) (a .n) (a .w .now) (a .omega) (a .some .now) (v .whole) (v .inside .below)
+          (a .tally .rng) _ _ _ _ _ (at-coloring .coloring .result) (a .tally .directions) (a .tally .sweeps)
+          (at-scales-into .scales-into .ensures) (v .rows)
+          (at-coloring .coloring .ensures) (at-sigma-of .sigma-of .ensures) (at-double-or-zero .double-or-zero .ensures);
+    }
 
 pub halve-some-spec : {M : Type 1} → statement M
 halve-some-spec =
