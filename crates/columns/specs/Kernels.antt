@@ -1,6 +1,8 @@
 -- Told between functions: what a column does to a vector over the rows, row by row.
-use Prim.Native.Nat.{ℕ}
+use Prim.Native.Nat.{ℕ, _+_, _≤_}
+use mathlib.Core.Path.{_≡_}
 use mathlib.Core.List.{List}
+use lib.ListN.{length}
 use lib.Ieee.{Float, binary64, add, sub, mul}
 use Rattle.seq.specs.Sums.{at}
 
@@ -12,6 +14,12 @@ plusColumn column g acc i = add binary64 (at acc i) (mul binary64 (column i) g)
 abbrev pub plusColumns : (ℕ → Float) → Float → (ℕ → Float) → Float → List Float → ℕ → Float
 plusColumns column g other h acc i =
     add binary64 (add binary64 (at acc i) (mul binary64 (column i) g)) (mul binary64 (other i) h)
+
+-- two columns of one length, and a vector over as many rows or one more
+pub record TwoUnder (first second acc : List Float) : Type 0 where
+  pub alike : length second ≡ length first
+  pub low : length first ≤ length acc
+  pub high : length acc ≤ length first + 1
 
 -- acc + column²
 abbrev pub plusSquares : (ℕ → Float) → List Float → ℕ → Float

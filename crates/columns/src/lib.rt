@@ -5,7 +5,7 @@ ghost use Prim.Native.Nat.{_≤_, _+_};
 ghost use lib.ListN.{length};
 ghost use Rattle.seq.specs.Lists.{tabulate};
 ghost use Rattle.columns.specs.Columns.{scaledAt};
-ghost use Rattle.columns.specs.Kernels.{plusColumn, plusColumns, plusSquares, lessColumn};
+ghost use Rattle.columns.specs.Kernels.{plusColumn, plusColumns, plusSquares, lessColumn, TwoUnder};
 
 // acc + g times the column.
 pub fn add_column(acc: &mut [f64], column: &[f64], s: f64, g: f64)
@@ -52,8 +52,7 @@ pub fn less_column(ax: &mut [f64], column: &[f64], s: f64, t: f64)
 
 // acc + two columns, each times its g, in order.
 pub fn add_two(acc: &mut [f64], first: &[f64], s: f64, g: f64, second: &[f64], t: f64, h: f64)
-    requires { ⌜ (length (now second) ≡ length (now first)) × (length (now first) ≤ length (now acc)) ×
-        (length (now acc) ≤ length (now first) + 1) ⌝ }
+    requires { ⌜ TwoUnder (now first) (now second) (now acc) ⌝ }
     ensures { λ _. ⌜ now (acc .exit) ≡ tabulate
         (plusColumns (scaledAt (now (first .entry)) s) g (scaledAt (now (second .entry)) t) h (now (acc .entry)))
         (length (now (acc .entry))) ⌝ }

@@ -2,11 +2,9 @@
 use draw::SplitMix64;
 use rules::Cap;
 ghost use mathlib.Core.Path.{_≡_};
-ghost use Rattle.draw.specs.SplitMix.{seeded, afterOf};
-ghost use Rattle.draw.specs.Uniform.{uniformIn};
-ghost use Rattle.draw.specs.Gaussian.{gaussianOf, afterGaussian};
 ghost use Rattle.interface.specs.Version.{versionNumber};
 ghost use Rattle.interface.specs.Caps.{capOf};
+ghost use Rattle.interface.specs.Draws.{UniformDrawn, GaussianDrawn};
 
 // The version of the library: that of the file VERSION.
 pub fn version() -> u64
@@ -17,8 +15,7 @@ pub fn version() -> u64
 
 // The next uniform draw by an edition; the state moves on.
 pub fn next_uniform(state: &mut u64, edition: u32) -> f64
-    ensures { λ r. ⌜ (r ≡ uniformIn (seeded (now (state .entry)) edition))
-        × (now (state .exit) ≡ afterOf (seeded (now (state .entry)) edition) .state) ⌝ }
+    ensures { λ r. ⌜ UniformDrawn (now (state .entry)) edition r (now (state .exit)) ⌝ }
 {
     let u = SplitMix64::new(*state, edition).uniform();
     *state = u.rng.state;
@@ -27,8 +24,7 @@ pub fn next_uniform(state: &mut u64, edition: u32) -> f64
 
 // The next Gaussian draw by an edition; the state moves on.
 pub fn next_gaussian(state: &mut u64, edition: u32) -> f64
-    ensures { λ r. ⌜ (r ≡ gaussianOf (seeded (now (state .entry)) edition))
-        × (now (state .exit) ≡ afterGaussian (seeded (now (state .entry)) edition) .state) ⌝ }
+    ensures { λ r. ⌜ GaussianDrawn (now (state .entry)) edition r (now (state .exit)) ⌝ }
 {
     let d = SplitMix64::new(*state, edition).gaussian();
     *state = d.rng.state;

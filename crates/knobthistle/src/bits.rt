@@ -12,13 +12,13 @@ use polls::discrepancy_coloring_bits;
 use polls::max_margin_change_bits;
 use polls::turned_words_bits;
 use sparsification::Job;
-ghost use mathlib.Core.Path.{_≡_};
 ghost use Rattle.draw.specs.SplitMix.{seeded};
 ghost use Rattle.faults.specs.Faults.{ruleNamed};
 ghost use Rattle.rules.specs.declared.Rule.the-variants.{Target, Within};
 ghost use Rattle.bitfaults.specs.Ballots.{BitsThinned};
 ghost use Rattle.items.specs.Items.{listed};
 ghost use Rattle.items.specs.All.{BitsThinnedAll};
+ghost use Rattle.margins.specs.Answers.{ChangeGiven, TurnedGiven};
 ghost use Rattle.pollfaults.specs.Polls.{BitsColored, bitsChange, bitsTurned};
 ghost use Rattle.interface.specs.Caps.{capOf};
 
@@ -32,8 +32,7 @@ pub extern "C" fn knob_max_margin_change_bits(
     after: &[f64],
     change: &mut f64,
 ) -> u64
-    ensures { λ r. ⌜ (r ≡ bitsChange (now (bits .entry)) m n (now (before .entry)) (now (after .entry)) .number)
-        × (now (change .exit) ≡ bitsChange (now (bits .entry)) m n (now (before .entry)) (now (after .entry)) .change) ⌝ }
+    ensures { λ r. ⌜ ChangeGiven (bitsChange (now (bits .entry)) m n (now (before .entry)) (now (after .entry))) r (now (change .exit)) ⌝ }
 {
     let a = max_margin_change_bits(bits, m, n, before, after);
     *change = a.change;
@@ -51,9 +50,8 @@ pub extern "C" fn knob_turned_words_bits(
     thresholds: &[f64],
     count: &mut u64,
 ) -> u64
-    ensures { λ r. ⌜ (r ≡ bitsTurned (now (bits .entry)) m n (now (before .entry)) (now (after .entry)) (now (thresholds .entry)) .number)
-        × (now (count .exit) ≡ bitsTurned (now (bits .entry)) m n (now (before .entry)) (now (after .entry))
-        (now (thresholds .entry)) .count) ⌝ }
+    ensures { λ r. ⌜ TurnedGiven (bitsTurned (now (bits .entry)) m n (now (before .entry)) (now (after .entry)) (now (thresholds .entry))) r
+        (now (count .exit)) ⌝ }
 {
     let a = turned_words_bits(bits, m, n, before, after, thresholds);
     *count = a.count;

@@ -26,19 +26,19 @@ use words::moved_sheet;
 use writing::write_sheet;
 ghost use mathlib.Core.Path.{_≡_};
 ghost use Rattle.root.specs.Root.{sqrtOf};
-ghost use Rattle.draw.specs.SplitMix.{seeded, afterOf};
-ghost use Rattle.draw.specs.Uniform.{uniformIn};
-ghost use Rattle.draw.specs.Gaussian.{lnOfDraw, cosOfDraw, gaussianOf, afterGaussian};
+ghost use Rattle.draw.specs.SplitMix.{seeded};
+ghost use Rattle.draw.specs.Gaussian.{lnOfDraw, cosOfDraw};
 ghost use Rattle.colorfaults.specs.Discrepancy.{DiscrepancyColored};
 ghost use Rattle.interface.specs.Version.{versionNumber};
 ghost use Rattle.interface.specs.Caps.{capOf};
+ghost use Rattle.interface.specs.Draws.{UniformDrawn, GaussianDrawn};
 ghost use Rattle.answers.specs.Answers.{Thinned};
 ghost use Rattle.items.specs.Items.{listed};
 ghost use Rattle.items.specs.All.{ThinnedAll};
 ghost use Rattle.faults.specs.Faults.{ruleNamed};
 ghost use Rattle.votefaults.specs.Votes.{VotesThinned};
 ghost use Rattle.rules.specs.declared.Rule.the-variants.{Target, Within};
-ghost use Rattle.margins.specs.Answers.{changeAnswer, turnedAnswer};
+ghost use Rattle.margins.specs.Answers.{changeAnswer, turnedAnswer, ChangeGiven, TurnedGiven};
 ghost use Rattle.sheet.specs.Answer.{Answered};
 ghost use Rattle.gathering.specs.Lines.{noLines, after};
 ghost use Rattle.keeping.specs.Saved.{salvaged, Laid};
@@ -58,8 +58,7 @@ pub extern "C" fn knob_version() -> u64
 // The next uniform draw of edition 1.
 #[no_mangle]
 pub extern "C" fn knob_uniform(state: &mut u64) -> f64
-    ensures { λ r. ⌜ (r ≡ uniformIn (seeded (now (state .entry)) 1))
-        × (now (state .exit) ≡ afterOf (seeded (now (state .entry)) 1) .state) ⌝ }
+    ensures { λ r. ⌜ UniformDrawn (now (state .entry)) 1 r (now (state .exit)) ⌝ }
 {
     next_uniform(state, 1)
 }
@@ -67,8 +66,7 @@ pub extern "C" fn knob_uniform(state: &mut u64) -> f64
 // The next uniform draw of edition 2.
 #[no_mangle]
 pub extern "C" fn knob_uniform_2(state: &mut u64) -> f64
-    ensures { λ r. ⌜ (r ≡ uniformIn (seeded (now (state .entry)) 2))
-        × (now (state .exit) ≡ afterOf (seeded (now (state .entry)) 2) .state) ⌝ }
+    ensures { λ r. ⌜ UniformDrawn (now (state .entry)) 2 r (now (state .exit)) ⌝ }
 {
     next_uniform(state, 2)
 }
@@ -76,8 +74,7 @@ pub extern "C" fn knob_uniform_2(state: &mut u64) -> f64
 // The next Gaussian draw of edition 1.
 #[no_mangle]
 pub extern "C" fn knob_gaussian(state: &mut u64) -> f64
-    ensures { λ r. ⌜ (r ≡ gaussianOf (seeded (now (state .entry)) 1))
-        × (now (state .exit) ≡ afterGaussian (seeded (now (state .entry)) 1) .state) ⌝ }
+    ensures { λ r. ⌜ GaussianDrawn (now (state .entry)) 1 r (now (state .exit)) ⌝ }
 {
     next_gaussian(state, 1)
 }
@@ -85,8 +82,7 @@ pub extern "C" fn knob_gaussian(state: &mut u64) -> f64
 // The next Gaussian draw of edition 2.
 #[no_mangle]
 pub extern "C" fn knob_gaussian_2(state: &mut u64) -> f64
-    ensures { λ r. ⌜ (r ≡ gaussianOf (seeded (now (state .entry)) 2))
-        × (now (state .exit) ≡ afterGaussian (seeded (now (state .entry)) 2) .state) ⌝ }
+    ensures { λ r. ⌜ GaussianDrawn (now (state .entry)) 2 r (now (state .exit)) ⌝ }
 {
     next_gaussian(state, 2)
 }
@@ -141,8 +137,7 @@ pub extern "C" fn knob_max_margin_change(
     after: &[f64],
     change: &mut f64,
 ) -> u64
-    ensures { λ r. ⌜ (r ≡ changeAnswer (now (matrix .entry)) m n (now (before .entry)) (now (after .entry)) .number)
-        × (now (change .exit) ≡ changeAnswer (now (matrix .entry)) m n (now (before .entry)) (now (after .entry)) .change) ⌝ }
+    ensures { λ r. ⌜ ChangeGiven (changeAnswer (now (matrix .entry)) m n (now (before .entry)) (now (after .entry))) r (now (change .exit)) ⌝ }
 {
     let a = max_margin_change(matrix, m, n, before, after);
     *change = a.change;
@@ -160,10 +155,9 @@ pub extern "C" fn knob_turned_words(
     thresholds: &[f64],
     count: &mut u64,
 ) -> u64
-    ensures { λ r. ⌜ (r
-        ≡ turnedAnswer (now (matrix .entry)) m n (now (before .entry)) (now (after .entry)) (now (thresholds .entry)) .number)
-        × (now (count .exit) ≡ turnedAnswer (now (matrix .entry)) m n (now (before .entry)) (now (after .entry))
-        (now (thresholds .entry)) .count) ⌝ }
+    ensures { λ r. ⌜ TurnedGiven
+        (turnedAnswer (now (matrix .entry)) m n (now (before .entry)) (now (after .entry)) (now (thresholds .entry))) r
+        (now (count .exit)) ⌝ }
 {
     let a = turned_words(matrix, m, n, before, after, thresholds);
     *count = a.count;

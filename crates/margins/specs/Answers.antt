@@ -1,5 +1,6 @@
 -- What the public calls answer for every argument.
 use Prim.Native.Nat.{ℕ, _*_}
+use mathlib.Core.Path.{_≡_}
 use mathlib.Core.Bool.{not, _||_}
 use mathlib.Core.List.{List}
 use lib.Dec.{eqb}
@@ -39,3 +40,13 @@ unfoldable pub turnedAnswer : List Float → ℕ → ℕ → List Float → List
 turnedAnswer matrix m n before after thresholds =
     let number : ℕ = turnedFault matrix m n before after thresholds in
     record { number = number; count = pick (eqb number 0) (turnedCount (columnsOf matrix n) m n before after thresholds) 0 }
+
+-- the answer as a call gives it that writes the change: its number is r, and the change that is written change'
+pub record ChangeGiven (answer : Change) (r : ℕ) (change' : Float) : Type 0 where
+  pub number : r ≡ answer .number
+  pub change : change' ≡ answer .change
+
+-- so for the count of turned words
+pub record TurnedGiven (answer : Turned) (r count' : ℕ) : Type 0 where
+  pub number : r ≡ answer .number
+  pub count : count' ≡ answer .count

@@ -56,7 +56,7 @@ loop-again c =
     let at-start = at-loop .before .before .before .before in
     let v = at-loop .loop .inv .0 in
     let own = c .before .before .before .loop-test .taken in
-    let other : at-loop .loop .i < length (at-start .args .second .now) = omega (arith, own, at-start .pre .0) in (
+    let other : at-loop .loop .i < length (at-start .args .second .now) = omega (arith, own, at-start .pre .alike) in (
       turn v (omega arith) (rw (
         still v (omega arith) nan,
         scaled-own _ _ _ own,
@@ -92,7 +92,7 @@ returns c =
     let at-start = at-loop .before .before .before .before in
     let v = at-loop .loop .inv .0 in
     let under = c .before .before .before .before .loop-test .left in
-    let other : length (at-start .args .second .now) ≤ at-loop .loop .i = omega (arith, under, at-start .pre .0) in
+    let other : length (at-start .args .second .now) ≤ at-loop .loop .i = omega (arith, under, at-start .pre .alike) in
     whole (turn v (omega arith) (rw (
       still v (omega arith) nan,
       scaled-under _ _ _ under,

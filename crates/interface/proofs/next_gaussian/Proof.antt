@@ -15,7 +15,10 @@ gaussian-requires c κs = search needs
 returns : tie.Need-returns
 returns c =
     let started = c .before .new .ensures in
-    (c .gaussian .ensures .0 ∙ ap gaussianOf started, ap (λ (rng : SplitMix64). rng .state) (c .gaussian .ensures .1 ∙ ap afterGaussian started))
+    record {
+      value = c .gaussian .ensures .0 ∙ ap gaussianOf started;
+      moved = ap (λ (rng : SplitMix64). rng .state) (c .gaussian .ensures .1 ∙ ap afterGaussian started);
+    }
 
 pub next-gaussian-spec : {M : Type 1} → statement M
 next-gaussian-spec = tie.close (tie.spec new-requires gaussian-requires returns)

@@ -16,7 +16,10 @@ uniform-requires c κs = search needs
 returns : tie.Need-returns
 returns c =
     let started = c .before .new .ensures in
-    (c .uniform .ensures .0 ∙ ap uniformIn started, ap (λ (rng : SplitMix64). rng .state) (c .uniform .ensures .1 ∙ ap afterOf started))
+    record {
+      value = c .uniform .ensures .0 ∙ ap uniformIn started;
+      moved = ap (λ (rng : SplitMix64). rng .state) (c .uniform .ensures .1 ∙ ap afterOf started);
+    }
 
 pub next-uniform-spec : {M : Type 1} → statement M
 next-uniform-spec = tie.close (tie.spec new-requires uniform-requires returns)

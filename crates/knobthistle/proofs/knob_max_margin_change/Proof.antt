@@ -9,7 +9,10 @@ max-margin-change-requires : tie.Need-max-margin-change-requires
 max-margin-change-requires c κs = search needs
 
 returns : tie.Need-returns
-returns c = (ap (λ (a : Change). a .number) (c .max-margin-change .ensures), ap (λ (a : Change). a .change) (c .max-margin-change .ensures))
+returns c = record {
+  number = ap (λ (a : Change). a .number) (c .max-margin-change .ensures);
+  change = ap (λ (a : Change). a .change) (c .max-margin-change .ensures);
+}
 
 pub knob-max-margin-change-spec : {M : Type 1} → statement M
 knob-max-margin-change-spec = tie.close (tie.spec max-margin-change-requires returns)

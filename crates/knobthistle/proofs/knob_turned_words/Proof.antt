@@ -9,7 +9,10 @@ turned-words-requires : tie.Need-turned-words-requires
 turned-words-requires c κs = search needs
 
 returns : tie.Need-returns
-returns c = (ap (λ (a : Turned). a .number) (c .turned-words .ensures), ap (λ (a : Turned). a .count) (c .turned-words .ensures))
+returns c = record {
+  number = ap (λ (a : Turned). a .number) (c .turned-words .ensures);
+  count = ap (λ (a : Turned). a .count) (c .turned-words .ensures);
+}
 
 pub knob-turned-words-spec : {M : Type 1} → statement M
 knob-turned-words-spec = tie.close (tie.spec turned-words-requires returns)

@@ -56,7 +56,11 @@ add-two-requires : tie.Need-add-two-requires
 add-two-requires c κs =
     let h = c .before .before .before .before .before .before .before .pre .0 .doubles (omega arith) in
     let k = c .before .before .before .before .before .before .before .pre .1 .doubles (omega arith) in
-    simp (length-take, length-drop) (omega (arith, h, k), omega (arith, h, k), omega (arith, h, k))
+    record {
+      alike = simp (length-take, length-drop) (omega (arith, h, k));
+      low = simp (length-take, length-drop) (omega (arith, h, k));
+      high = simp (length-take, length-drop) (omega (arith, h, k));
+    }
 
 add-b : tie.Need-add-b
 add-b c = search needs

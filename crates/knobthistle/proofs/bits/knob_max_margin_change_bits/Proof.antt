@@ -9,7 +9,10 @@ max-margin-change-bits-requires : tie.Need-max-margin-change-bits-requires
 max-margin-change-bits-requires c κs = search needs
 
 returns : tie.Need-returns
-returns c = (ap (λ (a : Change). a .number) (c .max-margin-change-bits .ensures), ap (λ (a : Change). a .change) (c .max-margin-change-bits .ensures))
+returns c = record {
+  number = ap (λ (a : Change). a .number) (c .max-margin-change-bits .ensures);
+  change = ap (λ (a : Change). a .change) (c .max-margin-change-bits .ensures);
+}
 
 pub knob-max-margin-change-bits-spec : {M : Type 1} → statement M
 knob-max-margin-change-bits-spec = tie.close (tie.spec max-margin-change-bits-requires returns)

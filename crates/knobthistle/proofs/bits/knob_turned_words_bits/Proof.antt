@@ -9,7 +9,10 @@ turned-words-bits-requires : tie.Need-turned-words-bits-requires
 turned-words-bits-requires c κs = search needs
 
 returns : tie.Need-returns
-returns c = (ap (λ (a : Turned). a .number) (c .turned-words-bits .ensures), ap (λ (a : Turned). a .count) (c .turned-words-bits .ensures))
+returns c = record {
+  number = ap (λ (a : Turned). a .number) (c .turned-words-bits .ensures);
+  count = ap (λ (a : Turned). a .count) (c .turned-words-bits .ensures);
+}
 
 pub knob-turned-words-bits-spec : {M : Type 1} → statement M
 knob-turned-words-bits-spec = tie.close (tie.spec turned-words-bits-requires returns)
