@@ -1,7 +1,7 @@
 // The start of a phase: the rows most at risk are blocked.
 use blocking::block_row;
 use entries::norms_into;
-use order::first_rows;
+use leading::first_rows;
 use seq::clear_words;
 ghost use mathlib.Core.Path.{_≡_};
 ghost use Prim.Native.Nat.{ℕ, _≤_, _<_, _*_, _+_};

@@ -17,7 +17,7 @@ use Rattle.ieee.specs.Units.{sign}
 use Rattle.ieee.specs.Magnitude.{absOf, signumOf, aboveOf}
 use Rattle.ieee.proofs.Grid.{sign-of-value}
 use Rattle.ieee.proofs.Signs.{nought, nought-is}
-use Rattle.ieee.proofs.Flat.{add-commutes}
+use Rattle.ieee.proofs.Flat.{add-commutes, zero-times}
 use Rattle.ieee.proofs.Alikes.{fits-zero}
 use Rattle.ieee.proofs.Zeros.{plus-zero}
 use Rattle.ieee.proofs.Division.{unit-is}
@@ -61,7 +61,7 @@ pub nan-skipped : (x y : Float) (t : Bool) → eq x x ≡ false → y ≡ pick (
 unfolding isNan
 nan-skipped x y t h = rw (nan-self x h)
 
--- ---- the larger of x and 0.0 - x
+-- ---- x where it is above 0.0, and 0.0 - x elsewhere
 turned-zero : (s : Bool) → sub binary64 nought (fin s 0 (pos 0)) ≡ nought
 unfolding sub add neg
 turned-zero true = refl
@@ -72,14 +72,15 @@ unfolding sub neg
 turned-fin s m e h = add-commutes binary64 nought (fin (not s) (suc m) e) ∙ plus-zero binary64 (fin (not s) (suc m) e) false
     (neg-fits binary64 (fin s (suc m) e) h) tt
 
-larger-sign : (s : Bool) (m : ℕ) (e : ℤ) → pick (lt (fin (not s) (suc m) e) (fin s (suc m) e)) (fin s (suc m) e) (fin (not s) (suc m) e) ≡ fin false (suc m) e
+above-zero : (s : Bool) (m : ℕ) (e : ℤ) → pick (lt nought (fin s (suc m) e)) (fin s (suc m) e) (fin (not s) (suc m) e) ≡ fin false (suc m) e
 unfolding lt
-larger-sign true m e = refl
-larger-sign false m e =
-    let p : 0 < suc m * up e * down e = mul-pos (mul-pos (zero-lt-suc m) (up-pos e)) (down-pos e) in
-    rw (is-true (ltb 0 (suc m * up e * down e + suc m * up e * down e)) (lt→ltb 0 (suc m * up e * down e + suc m * up e * down e) (omega arith)))
+above-zero true m e = refl
+above-zero false m e =
+    let p : 0 < suc m * up e * down (pos 0) = mul-pos (mul-pos (zero-lt-suc m) (up-pos e)) (down-pos (pos 0)) in
+    rw (is-true (ltb (0 * up (pos 0) * down e) (suc m * up e * down (pos 0)))
+    (lt→ltb (0 * up (pos 0) * down e) (suc m * up e * down (pos 0)) (omega (arith, p, zero-times (up (pos 0)) (down e)))))
 
-abs-law : (x : Float) → T (fits binary64 x) → pick (lt (sub binary64 nought x) x) x (sub binary64 nought x) ≡ absOf x
+abs-law : (x : Float) → T (fits binary64 x) → pick (lt nought x) x (sub binary64 nought x) ≡ absOf x
 abs-law nan h = unfold lt sub add neg in refl
 abs-law (inf true) h = unfold lt sub add neg in refl
 abs-law (inf false) h = unfold lt sub add neg in refl
@@ -88,12 +89,12 @@ abs-law (fin s zero e) h = rw (fits-zero binary64 s e h, turned-zero s) (none s)
     none : (s : Bool) → pick (lt nought (fin s 0 (pos 0))) (fin s 0 (pos 0)) nought ≡ nought
     none true = unfold lt in refl
     none false = unfold lt in refl
-abs-law (fin s (suc m) e) h = rw (turned-fin s m e h) (larger-sign s m e)
+abs-law (fin s (suc m) e) h = rw (turned-fin s m e h) (above-zero s m e)
 
-pub abs-kept : (x : Float) → T (fits binary64 x) → lt (sub binary64 (ofBits binary64 0) x) x ≡ true → x ≡ absOf x
+pub abs-kept : (x : Float) → T (fits binary64 x) → lt (ofBits binary64 0) x ≡ true → x ≡ absOf x
 abs-kept x h t = sym (ap (λ (b : Bool). pick b x (sub binary64 nought x)) (rw nought-is at t)) ∙ abs-law x h
 
-pub abs-turned : (x : Float) → T (fits binary64 x) → lt (sub binary64 (ofBits binary64 0) x) x ≡ false → sub binary64 (ofBits binary64 0) x ≡ absOf x
+pub abs-turned : (x : Float) → T (fits binary64 x) → lt (ofBits binary64 0) x ≡ false → sub binary64 (ofBits binary64 0) x ≡ absOf x
 abs-turned x h t = rw nought-is (sym (ap (λ (b : Bool). pick b x (sub binary64 nought x)) (rw nought-is at t)) ∙ abs-law x h)
 
 -- ---- the sign in the bit pattern

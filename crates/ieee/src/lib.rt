@@ -1,15 +1,30 @@
 // What IEEE 754 and Rust have for doubles and the language lacks: magnitude, sign, order.
 // Each function answers for every double, a NaN and the infinities included.
 ghost use mathlib.Core.Path.{_≡_};
+ghost use lib.Ieee.{le, lt};
 ghost use lib.Ieee.Scale.{finite};
 ghost use Rattle.ieee.specs.Magnitude.{absOf, signumOf, clampOf, largerOf, smallerOf, aboveOf};
 
-// The magnitude of x: of x and 0.0 - x the larger, which for a zero is +0.0. It compiles to a difference and a maximum, with no branch.
+// The magnitude of x: x where it is above zero, and elsewhere 0.0 - x, which for a zero is +0.0. Where it is compared, it compiles to the
+// machine's own magnitude, which differs only in the sign of a NaN.
 pub fn abs(x: f64) -> f64
     ensures { λ r. ⌜ r ≡ absOf x ⌝ }
 {
-    let turned = 0.0 - x;
-    if x > turned { x } else { turned }
+    if x > 0.0 { x } else { 0.0 - x }
+}
+
+// Whether the magnitude of x is at most t.
+pub fn at_most(x: f64, t: f64) -> bool
+    ensures { λ r. ⌜ r ≡ le (absOf x) t ⌝ }
+{
+    abs(x) <= t
+}
+
+// Whether it is below t.
+pub fn under(x: f64, t: f64) -> bool
+    ensures { λ r. ⌜ r ≡ lt (absOf x) t ⌝ }
+{
+    abs(x) < t
 }
 
 // 1.0 with the sign of x, which a zero has too. A NaN stays a NaN.

@@ -8,3 +8,4 @@ pub mod Keeping
 pub mod Every
 pub mod Sorting
 pub mod Summing
+pub mod Passing

@@ -1,4 +1,5 @@
--- The vocabulary of the definitions: a choice, lists by index, indices of lists, marks, running sums, a sort, a selection, a loop.
+-- The vocabulary of the definitions: a choice, lists by index, indices of lists, marks, running sums, a sort, a selection, a loop,
+-- places passed over.
 pub mod Choice
 pub mod Lists
 pub mod Indices
@@ -7,3 +8,4 @@ pub mod Sums
 pub mod Sort
 pub mod Keep
 pub mod Until
+pub mod Passing

@@ -1,4 +1,4 @@
--- `ieee::abs` meets its contract: whether x is above 0.0 - x says which of the two is the magnitude.
+-- `ieee::abs` meets its contract: whether x is above 0.0 says which of x and 0.0 - x is the magnitude.
 use mathlib.Core.Path.{sym, subst}
 use lib.Dec.{T}
 use lib.Ieee.{binary64, fits}

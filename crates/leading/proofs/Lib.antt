@@ -1,0 +1,2 @@
+-- Laws of the rows that are passed over.
+pub mod Behind

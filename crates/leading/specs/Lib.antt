@@ -1,0 +1,2 @@
+-- Rows that are passed over in the search of the first.
+pub mod Behind
