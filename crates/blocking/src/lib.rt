@@ -56,12 +56,12 @@ pub fn block_worst(
         (length (now (cols .entry))) (now (numbers .entry)) (now (blocked .entry)) count r (now (numbers .exit))
         (now (blocked .exit)) ⌝ }
 {
+    if count >= cols.len() {
+        return count;
+    }
     let rows = blocked.len();
     let i = worst(&numbers[..rows], &blocked[..]);
     if i >= rows {
-        return count;
-    }
-    if count >= cols.len() {
         return count;
     }
     blocked[i] = 1;

@@ -1,4 +1,4 @@
--- `blocking::block_worst` meets its contract: a law for each way out, no row left, a full basis, and a row that is blocked.
+-- `blocking::block_worst` meets its contract: a law for each way out, a full basis, no row left, and a row that is blocked.
 use lib.Seq.{length-take-le}
 use Rattle.chosen.specs.Entries.{entryOf}
 use Rattle.blocking.proofs.Scratch.{rest-room}
@@ -9,6 +9,11 @@ use native.Mathlib.Omega.{arith}
 use lib.ListN.{length}
 use Rattle.blocking.proofs.block_worst.Statement.{statement}
 use Rattle.blocking.proofs.block_worst.Tie as tie
+
+returns : tie.Need-returns
+returns c =
+    let a = c .before .before .before .before .before .before .before .before .args in
+    basis-full _ _ (a .numbers .now) (a .blocked .now) _ 0 (c .if1 .taken)
 
 slice-reshare-prefix-worst : tie.Need-slice-reshare-prefix-worst
 slice-reshare-prefix-worst c = search needs
@@ -25,24 +30,14 @@ same-length c = search needs
 same-length-2 : tie.Need-same-length-2
 same-length-2 c = search needs
 
-returns : tie.Need-returns
-returns c =
-    let at-start = c .before .before .before .before .before .before .before .before .before .before .before in
-    let a = at-start .args in
-    all-blocked _ _ (a .numbers .now) (a .blocked .now) _ (c .before .worst .result)
-    (worst-is (entryOf (a .matrix .now) (a .bits .now) (a .n) (a .cols .now) (a .scale .now)) (length (a .cols .now)) (a .numbers .now)
-    (a .blocked .now) (a .count) _ (omega arith) (c .before .worst .ensures)) (c .if1 .taken)
-
-same-length-3 : tie.Need-same-length-3
-same-length-3 c = search needs
-
-same-length-4 : tie.Need-same-length-4
-same-length-4 c = search needs
-
 returns-2 : tie.Need-returns-2
 returns-2 c =
-    let a = c .before .before .before .before .before .before .before .before .before .before .before .before .args in
-    basis-full _ _ (a .numbers .now) (a .blocked .now) _ (c .before .before .worst .result) (c .if2 .taken)
+    let at-worst = c .before in
+    let at-start = at-worst .before .before .before .before .before .before .before .before .before .before .before in
+    let a = at-start .args in
+    all-blocked _ _ (a .numbers .now) (a .blocked .now) _ (at-worst .worst .result)
+    (worst-is (entryOf (a .matrix .now) (a .bits .now) (a .n) (a .cols .now) (a .scale .now)) (length (a .cols .now)) (a .numbers .now)
+    (a .blocked .now) (a .count) _ (omega arith) (at-worst .worst .ensures)) (c .if2 .taken)
 
 mul-blocked : tie.Need-mul-blocked
 mul-blocked c = search needs
@@ -70,45 +65,44 @@ part-block-row-end c = search needs
 
 block-row-requires : tie.Need-block-row-requires
 block-row-requires c κs =
-    let a = c .before .before .before .before .before .before .before .before .before .before .before .before .before .before .args in
-    let p = c .before .before .before .before .before .before .before .before .before .before .before .before .before .before .pre in
+    let at-start = c .before .before .before .before .before .before .before .before .before .before .before .before .before .before in
+    let a = at-start .args in
+    let p = at-start .pre in
     (chosen-own (p .0), p .1, rest-room _ _ (a .numbers .now) (omega arith), p .3)
+
+same-length-3 : tie.Need-same-length-3
+same-length-3 c = search needs
+
+same-length-4 : tie.Need-same-length-4
+same-length-4 c = search needs
 
 same-length-5 : tie.Need-same-length-5
 same-length-5 c = search needs
-
-same-length-6 : tie.Need-same-length-6
-same-length-6 c = search needs
-
-same-length-7 : tie.Need-same-length-7
-same-length-7 c = search needs
 
 returns-3 : tie.Need-returns-3
 returns-3 c =
     let at-block-row = c .before .before .before .before in
     let at-if2 = at-block-row .before .before .before in
-    let at-if1 = at-if2 .before in
-    let at-worst = at-if1 .before in
-    let at-start = at-worst .before .before .before .before .before .before .before .before .before .before in
+    let at-worst = at-if2 .before in
+    let at-if1 = at-worst .before .before .before in
+    let at-start = at-if1 .before .before .before .before .before .before .before .before in
     let a = at-start .args in
     let e = entryOf (a .matrix .now) (a .bits .now) (a .n) (a .cols .now) (a .scale .now) in
     blocks e (length (a .cols .now)) (a .numbers .now) (a .blocked .now) (a .count) (at-worst .worst .result)
     (at-block-row .block-row .result) (at-block-row .block-row .last .0)
     (worst-is e (length (a .cols .now)) (a .numbers .now) (a .blocked .now) (a .count) _ (omega arith) (at-worst .worst .ensures))
-    (at-if1 .if1 .left) (at-if2 .if2 .left) (omega arith) (at-block-row .block-row .ensures)
+    (at-if2 .if2 .left) (at-if1 .if1 .left) (omega arith) (at-block-row .block-row .ensures)
 
 pub block-worst-spec : {M : Type 1} → statement M
 block-worst-spec =
     tie.close
     (tie.spec
+    returns
     slice-reshare-prefix-worst
     slice-aggregate-worst
     worst-requires
     same-length
     same-length-2
-    returns
-    same-length-3
-    same-length-4
     returns-2
     mul-blocked
     slice-write-blocked
@@ -119,7 +113,7 @@ block-worst-spec =
     part-block-row-start
     part-block-row-end
     block-row-requires
+    same-length-3
+    same-length-4
     same-length-5
-    same-length-6
-    same-length-7
     returns-3)
