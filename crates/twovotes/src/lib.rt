@@ -51,7 +51,7 @@ fn add_two_bytes(acc: &mut [f64], first: &[u8], t: f64, second: &[u8], u: f64, k
     ensures { λ _. ⌜ now (acc .exit) ≡ tabulate (signedTwo (now (first .entry)) t (now (second .entry)) u (now (acc .entry)))
         (8 * k) ++ drop (8 * k) (now (acc .entry)) ⌝ }
 {
-    if k < 32 {
+    if k < 64 {
         add_two_pairs(acc, first, t, second, u, k);
     } else {
         add_two_long(acc, first, t, second, u, k);
