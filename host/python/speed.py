@@ -1,5 +1,6 @@
 #!/usr/bin/env python3
-"""Times `thin_many` on forty ensembles over two processes beside one, in one run, by turns; prints the best of each and their ratio.
+"""Times `thin_many` on forty ensembles here, over one process and over two, in one run, by turns; prints the best of each and how many
+times as fast two are, for ensembles of a middle size and for the largest.
 
     PYTHONPATH=host/python python3 host/python/speed.py
 """
@@ -10,26 +11,29 @@ import numpy as np
 
 from knobthistle import thin_many
 
-WORDS, HYPOTHESES, ENSEMBLES, ROUNDS = 2000, 120, 40, 4
+ENSEMBLES, ROUNDS = 40, 4
 
 
 def main() -> None:
     chance = np.random.default_rng(0)
-    jobs = [
-        dict(margins=np.asfortranarray(chance.choice([-1.0, 1.0], (WORDS, HYPOTHESES))), weights=chance.uniform(0.1, 1, HYPOTHESES), target=4, seed=k)
-        for k in range(ENSEMBLES)
-    ]
-    expected = [answer.weights.tobytes() for answer in thin_many(jobs)]
-    best = {}
-    with ProcessPoolExecutor(1) as one, ProcessPoolExecutor(2) as two:
-        for _ in range(ROUNDS):
-            for processes, executor in ((1, one), (2, two)):
-                began = time.perf_counter()
-                answers = thin_many(jobs, executor)
-                took = time.perf_counter() - began
-                assert [answer.weights.tobytes() for answer in answers] == expected
-                best[processes] = min(took, best.get(processes, took))
-    print(f"{ENSEMBLES} ensembles of {HYPOTHESES} on {WORDS} words: one process {best[1]:.3f} s, two {best[2]:.3f} s, {best[1] / best[2]:.2f} times as fast")
+    for words, hypotheses in (2000, 120), (4096, 256):
+        jobs = [
+            dict(margins=np.asfortranarray(chance.choice([-1.0, 1.0], (words, hypotheses))), weights=chance.uniform(0.1, 1, hypotheses), target=4, seed=k)
+            for k in range(ENSEMBLES)
+        ]
+        expected = [answer.weights.tobytes() for answer in thin_many(jobs)]
+        best = {}
+        with ProcessPoolExecutor(1) as one, ProcessPoolExecutor(2) as two:
+            for _ in range(ROUNDS):
+                for way, executor in (("here", None), ("one process", one), ("two", two)):
+                    began = time.perf_counter()
+                    answers = thin_many(jobs, executor)
+                    took = time.perf_counter() - began
+                    assert [answer.weights.tobytes() for answer in answers] == expected
+                    best[way] = min(took, best.get(way, took))
+        times = ", ".join(f"{way} {took:.3f} s" for way, took in best.items())
+        ratios = f"{best['here'] / best['two']:.2f} and {best['one process'] / best['two']:.2f}"
+        print(f"{ENSEMBLES} ensembles of {hypotheses} on {words} words: {times}; two are {ratios} times as fast")
 
 
 if __name__ == "__main__":

@@ -3,7 +3,7 @@ from __future__ import annotations
 
 import operator
 from dataclasses import dataclass
-from typing import Any, Optional, SupportsIndex
+from typing import Any, Optional, Union, SupportsIndex
 
 import numpy as np
 from numpy.typing import ArrayLike, NDArray
@@ -28,7 +28,7 @@ def signs(margins: ArrayLike) -> Optional[NDArray[np.bool_]]:
     # Most that are no votes show it in their first row.
     for part in (array[:1], array):
         positive = part == 1
-        if not np.logical_or(positive, part == -1).all():
+        if np.count_nonzero(positive) + np.count_nonzero(part == -1) != part.size:
             return None
     return positive
 
@@ -96,8 +96,10 @@ class Margins:
         return *lent(self.array), self.hypotheses, self.words
 
 
-def margins_of(margins: ArrayLike) -> Margins:
+def margins_of(margins: Union[ArrayLike, Margins]) -> Margins:
     """Margins as the library takes them: one bit each where all of them are 1 or -1, for the same answers, else doubles."""
+    if isinstance(margins, Margins):
+        return margins
     array = numbers(margins, "margins")
     votes = signs(array) if array.ndim == 2 else None
     entries = matrix(array) if votes is None else packed(votes)

@@ -4,7 +4,7 @@ from __future__ import annotations
 from concurrent.futures import Executor
 from typing import Any, Iterable, Mapping, Optional
 
-from ._lent import signs
+from ._lent import margins_of
 from ._thinning import Thinned, thin
 
 
@@ -13,9 +13,8 @@ def _thin(job: Mapping[str, Any]) -> Thinned:
 
 
 def _packed(job: Mapping[str, Any]) -> dict[str, Any]:
-    """The same job, of which less has to be sent."""
-    votes = signs(job["margins"])
-    return dict(job) if votes is None else {**job, "margins": votes}
+    """The same job with its margins as they are lent: of votes far less has to be sent."""
+    return {**job, "margins": margins_of(job["margins"])}
 
 
 def thin_many(jobs: Iterable[Mapping[str, Any]], executor: Optional[Executor] = None) -> list[Thinned]:
@@ -30,5 +29,10 @@ def thin_many(jobs: Iterable[Mapping[str, Any]], executor: Optional[Executor] = 
     """
     if executor is None:
         return [_thin(job) for job in jobs]
-    # Dask takes a list, and no other iterable.
-    return list(executor.map(_thin, [_packed(job) for job in jobs]))
+    # Each is sent as soon as it is packed, so that the next is packed while this one is done.
+    sent = [executor.submit(_thin, _packed(job)) for job in jobs]
+    try:
+        return [future.result() for future in sent]
+    finally:
+        for future in sent:
+            future.cancel()
