@@ -33,6 +33,39 @@ pub fn list_changes(
     list_moved(rows, changes, &keys[..], room, counts, again);
 }
 
+// The same of very few rows, with 192 bytes of its own to work in.
+fn list_least(
+    matrix: &[f64],
+    n: usize,
+    before: &[f64],
+    after: &[f64],
+    rows: &mut [u32],
+    changes: &mut [f64],
+    again: bool,
+)
+    requires { ⌜ Taken (now matrix) (length (now before)) n (now before) (now after)
+        × (length (now rows) ≡ n) × (length (now changes) ≡ n) × (n ≤ 16) ⌝ }
+    ensures { λ _. ⌜ Moved
+        (lentChanges (now (matrix .entry)) (length (now (before .entry))) n (now (before .entry)) (now (after .entry)))
+        (now (rows .exit)) (now (changes .exit)) ⌝ }
+{
+    let mut keys = [0.0f64; 16];
+    let mut room = [0u32; 16];
+    let mut counts = [0u32; 0];
+    list_changes(
+        matrix,
+        n,
+        before,
+        after,
+        rows,
+        changes,
+        &mut keys[..n],
+        &mut room[..n],
+        &mut counts[..],
+        again,
+    );
+}
+
 // The same of few rows, with 768 bytes of its own to work in.
 fn list_few(
     matrix: &[f64],
@@ -148,6 +181,10 @@ fn list_in_room(
         (lentChanges (now (matrix .entry)) (length (now (before .entry))) n (now (before .entry)) (now (after .entry)))
         (now (rows .exit)) (now (changes .exit)) ⌝ }
 {
+    if n <= 16 {
+        list_least(matrix, n, before, after, rows, changes, again);
+        return;
+    }
     if n <= 64 {
         list_few(matrix, n, before, after, rows, changes, again);
         return;
