@@ -137,7 +137,8 @@ pub extern "C" fn knob_max_margin_change(
     after: &[f64],
     change: &mut f64,
 ) -> u64
-    ensures { λ r. ⌜ ChangeGiven (changeAnswer (now (matrix .entry)) m n (now (before .entry)) (now (after .entry))) r (now (change .exit)) ⌝ }
+    ensures { λ r. ⌜ ChangeGiven (changeAnswer (now (matrix .entry)) m n (now (before .entry)) (now (after .entry))) r
+        (now (change .exit)) ⌝ }
 {
     let a = max_margin_change(matrix, m, n, before, after);
     *change = a.change;
