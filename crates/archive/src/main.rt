@@ -1,6 +1,7 @@
 // Replays an archive of 37 jobs: number, stage, nonzero entries, change, directions, sweeps, path and weights of each, doubles in
 // hexadecimal. The file stdout holds what the original answers for them, but for the last, whose allowance is infinite and which is
 // refused. Entries and weights are made by the generator from the job's seed.
+#![tactic(auto)]
 ghost use Rattle.std.specs.Prelude.{◌≤◌, ◌<◌, length};
 
 use answers::Answer;

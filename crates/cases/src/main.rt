@@ -1,5 +1,6 @@
 // Runs the worked cases of document 01 that are not proved in one table, and some jobs that the generator makes. A line holds the case,
 // what is asked, then of a thinning the number, the stage, the nonzero entries and the change, and at its end what document 01 expects.
+#![tactic(auto)]
 ghost use Rattle.std.specs.Prelude.{◌≤◌, ◌*◌, length};
 
 use discrepancy::discrepancy_coloring;

@@ -1,4 +1,6 @@
 // The digits of a root: guessed and tested, or found one by one.
+#![tactic(auto)]
+
 ghost use Rattle.std.specs.Prelude.{◌+◌, ◌*◌, ◌^◌, ◌<◌, ◌≤◌};
 
 use std::num::{wrapping_add_u64, wrapping_sub_u64};

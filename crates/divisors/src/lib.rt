@@ -1,4 +1,6 @@
 // The divisors of the two series, in one table that both read, and so in a crate below both.
+#![tactic(auto)]
+
 ghost use Rattle.std.specs.Prelude.{◌≡◌, ◌<◌};
 ghost use Rattle.divisors.specs.Divisors.{divisor_at};
 

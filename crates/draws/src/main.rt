@@ -1,6 +1,7 @@
 // Replays fixed vectors of the draw: of each state the two outputs, their uniforms, the logarithm of the first, the cosine of the second,
 // the Gaussian, and the state that it leaves, in hexadecimal; all of edition 1, and then all of edition 2. The file stdout holds what the
 // rule of docs/DRAW.md gives for them.
+#![tactic(auto)]
 use draw::SplitMix64;
 
 const STATES: [u64; 64] = [

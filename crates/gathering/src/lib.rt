@@ -1,4 +1,5 @@
 // Sheets from a bad cable: the good lines of a damaged sheet, read in pieces of any length and kept in lent buffers.
+#![tactic(auto)]
 ghost use Rattle.std.specs.Prelude.{◌≡◌, ◌+◌, ◌≤◌, ◌<◌, [], ◌∷◌, length};
 ghost use Rattle.seq.specs.Lists.{repeated};
 ghost use Rattle.gathering.specs.Kept.{is_line};

@@ -1,1 +1,2 @@
 // One halving: the definitions are in specs/, the laws in proofs/. Nothing here runs.
+#![tactic(auto)]

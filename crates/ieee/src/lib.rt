@@ -1,5 +1,7 @@
 // What IEEE 754 and Rust have for doubles and the language lacks: magnitude, sign, order.
 // Each function answers for every double, a NaN and the infinities included.
+#![tactic(auto)]
+
 ghost use Rattle.std.specs.Prelude.{◌≡◌};
 ghost use Rattle.std.specs.Float.Ieee.{le, lt};
 ghost use Rattle.std.specs.Float.Ieee.Scale.{finite};

@@ -1,4 +1,5 @@
 // The C interface: nothing but exported calls. include/knobthistle.h declares them.
+#![tactic(auto)]
 mod bits;
 
 ghost use Rattle.std.specs.Prelude.{◌≡◌};

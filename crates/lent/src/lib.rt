@@ -1,6 +1,7 @@
 // The generator lent: each draw moves it on in place, as 000's do, over the draws by value. The borrow checker covers no reference
 // to a struct, so each function here is proved by a walk of its code. Whoever calls `two_gaussians`, which takes and gives plain
 // data, needs no walk.
+#![tactic(auto)]
 ghost use Rattle.std.specs.Prelude.{◌≡◌};
 ghost use Rattle.draw.specs.SplitMix.{seeded, output_of, after_of};
 ghost use Rattle.draw.specs.Uniform.{uniform_in};

@@ -1,4 +1,6 @@
 // Sizes, what is refused for them, and the bits of a matrix of votes.
+#![tactic(auto)]
+
 ghost use Rattle.std.specs.Prelude.{◌≡◌, ◌≤◌, ◌<◌, ◌+◌, ◌*◌};
 ghost use Rattle.limits.specs.Limits.{too_large, scratch_short, bounded, all_finite};
 

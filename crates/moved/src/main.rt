@@ -1,4 +1,5 @@
 // moved: reads a sheet from standard input and writes its answer, with a line for each word that moved, to standard output.
+#![tactic(auto)]
 use words::moved_sheet;
 
 fn main() {

@@ -1,1 +1,2 @@
 // One pass: the definitions are in specs/, the laws in proofs/. Nothing here runs.
+#![tactic(auto)]

@@ -1,4 +1,5 @@
 // What the programs print: text, the bits of a double, weights, an answer and its path.
+#![tactic(auto)]
 use answers::Answer;
 
 // A text.

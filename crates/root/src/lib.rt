@@ -1,6 +1,8 @@
 // The square root, which IEEE 754 and Rust have for doubles and the language lacks. It answers for every double, a NaN and the infinities
 // included. Of a positive finite double it is found on bit patterns: an integer root by a guess that is tested, and the plain digit loop
 // where the test fails.
+#![tactic(auto)]
+
 ghost use Rattle.std.specs.Prelude.{◌≡◌, ◌+◌, ◌*◌, ◌^◌, ◌≤◌, ◌<◌};
 ghost use Rattle.std.specs.Float.Ieee.{of_bits};
 ghost use Rattle.std.specs.Float.{binary64};

@@ -1,5 +1,6 @@
 // When a job stops, what its rule is refused for and when its cap is met; below the tests of a job's arguments and below the stages,
 // which both read it.
+#![tactic(auto)]
 ghost use Rattle.std.specs.Prelude.{◌≡◌};
 ghost use Rattle.rules.specs.Rules.{cap_fault, rule_fault, meets};
 ghost use Rattle.rules.specs.declared.Rule.TheVariants.{Within};

@@ -1,5 +1,6 @@
 // salvage: reads a damaged sheet of any length from standard input and writes what is good of it to standard output. Whatever comes, it
 // holds the first line, at most 32 columns' lines, a mark for each, the number of lines and a piece of 64 KiB.
+#![tactic(auto)]
 ghost use Rattle.std.specs.Prelude.{◌+◌, ◌≤◌, ◌<◌, length};
 ghost use Rattle.gathering.specs.Steps.{Held};
 

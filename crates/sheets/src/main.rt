@@ -1,5 +1,6 @@
 // sheets: sheets of every kind and their answers: the worked cases, each refusal that a sheet can reach, each kind of wrong line,
 // and editions of the draw.
+#![tactic(auto)]
 use sheet::thin_sheet;
 
 // A title, and a sheet's answer.

@@ -1,4 +1,5 @@
 // thin: reads a sheet from standard input and writes its answer to standard output.
+#![tactic(auto)]
 use sheet::thin_sheet;
 
 fn main() {

@@ -1,4 +1,6 @@
 // Weights: how many are not 0, the float sum of their magnitudes, and the division by it.
+#![tactic(auto)]
+
 ghost use Rattle.std.specs.Prelude.{◌≡◌, length};
 ghost use Rattle.seq.specs.Lists.{tabulate};
 ghost use Rattle.seq.specs.Sums.{plus_zero};

@@ -1,4 +1,6 @@
 // The product of two numbers of 64 bits, in two words, and how far one pair of words is above another.
+#![tactic(auto)]
+
 ghost use Rattle.std.specs.Prelude.{◌≡◌, ◌+◌, ◌-◌, ◌*◌, ◌/◌, ◌%◌, ◌^◌, ◌<◌, ◌≤◌};
 
 // The upper 64 bits of u * v, by the products of halves: `second` is what the two columns below the highest carry on.

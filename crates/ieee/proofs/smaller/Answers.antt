@@ -1,0 +1,17 @@
+-- `ieee::smaller` meets its contract: a value is a NaN where it does not equal itself.
+use lib.Ieee.{lt}
+use Rattle.ieee.specs.Magnitude.{smaller_of}
+use Rattle.ieee.proofs.Magnitudes.{chosen-second, chosen-first, nan_skipped}
+use Rattle.ieee.proofs.smaller.Goals as goal
+
+pub returns-then-x-y : goal.returns-then-x-y
+unfolding smaller_of
+returns-then-x-y c = chosen-second _ _ _ c.if-x-y.true
+
+pub returns-else-x-y : goal.returns-else-x-y
+unfolding smaller_of
+returns-else-x-y c = chosen-first _ _ _ c.if-x-y.false c.if-x.true
+
+pub returns-else-x : goal.returns-else-x
+unfolding smaller_of
+returns-else-x c = nan_skipped _ _ (lt c.args.y c.args.x) c.if-x.false
