@@ -1,5 +1,6 @@
 // The worst row: the largest magnitude among those that are not blocked.
 #![tactic(auto)]
+
 ghost use Rattle.std.specs.Prelude.{◌≡◌, ◌≤◌, ◌<◌, ◌+◌, eqb, length};
 ghost use Rattle.seq.specs.Choice.{pick};
 ghost use Rattle.seq.specs.Sums.{at};
