@@ -35,7 +35,7 @@ use lib.Ieee.Fits.{up_pos}
 use lib.Ieee.Digits.{back}
 use lib.Ieee.Exact.{HasValue, odd_sign}
 use lib.Ieee.Scale.{finite}
-use Rattle.ieee.specs.Units.{sign, mag, is_num}
+use Rattle.ieee.specs.Units.{mag, is_num}
 use Rattle.root.specs.Root.{floor_root, root_of, sqrt_of}
 use Rattle.root.specs.Nearest.{NearestRoot, IsRoot}
 use Rattle.root.specs.Inner.{Normal}

@@ -26,26 +26,17 @@ step t k m (suc j) a J h =
       same = let p = pow-succ' 2 j in let q : m * (2 * 2 ^ j) ≡ t * 2 ^ (k + 52) = rw p at a.same in omega arith;
     })
 
-J : (c : tie.In-loop invariant-loop decreases-loop) → 0 < c.before.loop.j
-J c = pos _ _ _ _ c.before.before.requires.0 c.before.loop.invariant.same c.loop-test.true
-
-pub overflow_add-j : goal.overflow_add-j
-overflow_add-j c = omega arith
-
 pub loop-m-init : goal.loop-m-init
 loop-m-init c = record { some = omega arith; short = omega arith; near = omega arith; same = refl }
 
-pub overflow_mul-m : goal.overflow_mul-m
-overflow_mul-m c = omega arith
-
 pub overflow_sub-j : goal.overflow_sub-j
-overflow_sub-j c = omega (arith, J c)
+overflow_sub-j c = omega (arith, pos _ _ _ _ c.requires.0 c.loop-m.invariant.same c.loop-m-test.true)
 
 pub loop-m-smaller : goal.loop-m-smaller
-loop-m-smaller c = omega (arith, J c)
+loop-m-smaller c = omega (arith, pos _ _ _ _ c.requires.0 c.loop-m.invariant.same c.loop-m-test.true)
 
 pub loop-m-preserved : goal.loop-m-preserved
-loop-m-preserved c = step _ _ _ _ c.loop-m.invariant (J c) c.loop-m-test.true
+loop-m-preserved c = step _ _ _ _ c.loop-m.invariant (pos _ _ _ _ c.requires.0 c.loop-m.invariant.same c.loop-m-test.true) c.loop-m-test.true
 
 pub returns : goal.returns
 returns c =
