@@ -1,5 +1,6 @@
 // An orthonormal basis that stands vector after vector in a slice: Basis with project_out and insert, as 000 has them.
 #![tactic(auto)]
+
 ghost use Rattle.std.specs.Prelude.{◌≡◌, ◌≤◌, ◌*◌, ◌+◌, length};
 ghost use Rattle.seq.specs.Lists.{tabulate};
 ghost use Rattle.seq.specs.Sums.{plus_zero};

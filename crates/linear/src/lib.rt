@@ -1,5 +1,6 @@
 // Vectors: dot, norm and max_abs, as 000 has them.
 #![tactic(auto)]
+
 ghost use Rattle.std.specs.Prelude.{◌≡◌, ◌≤◌, ◌*◌, ◌+◌, length};
 ghost use Rattle.seq.specs.Sums.{plus_zero};
 ghost use Rattle.linear.specs.Vectors.{dot_of, norm_of, max_abs_of};

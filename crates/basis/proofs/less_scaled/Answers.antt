@@ -1,0 +1,15 @@
+-- `basis::less_scaled` meets its contract: the loop fills v, and reads each entry before it writes it.
+use Rattle.seq.proofs.Filling.{start, turn, still, whole}
+use Prim.Native.Nat.{◌-◌}
+use native.Mathlib.Omega.{arith}
+use lib.Ieee.{nan}
+use Rattle.basis.proofs.less_scaled.Goals as goal
+
+pub loop-i-init : goal.loop-i-init
+loop-i-init c = start _ _
+
+pub loop-i-preserved : goal.loop-i-preserved
+loop-i-preserved c = turn c.loop-i.invariant (omega arith) (rw (still c.loop-i.invariant (omega arith) nan))
+
+pub returns : goal.returns
+returns c = whole c.loop-i.invariant (omega arith)
