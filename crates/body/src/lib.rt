@@ -1,5 +1,6 @@
 // The lines of a sheet's columns, written each where the one before it ends.
 #![tactic(auto)]
+
 ghost use Rattle.std.specs.Prelude.{◌∷◌, ◌+◌, ◌*◌, ◌≤◌, length, get_or};
 ghost use Rattle.fields.specs.Bytes.{tab};
 ghost use Rattle.fields.specs.Texts.{bits_text};

@@ -1,5 +1,6 @@
 // The weights and the matrix that a sheet says, read.
 #![tactic(auto)]
+
 ghost use Rattle.std.specs.Prelude.{◌≡◌, length, ◌+◌, ◌<◌, ◌≤◌, ◌*◌};
 ghost use Rattle.seq.specs.Lists.{tabulate};
 ghost use Rattle.fields.specs.Fields.{bits_at};

@@ -1,5 +1,6 @@
 // The fields of a sheet: words, bits in hexadecimal and counts in decimal, read at a place of a text and written at a place of a buffer.
 #![tactic(auto)]
+
 ghost use Rattle.std.specs.Prelude.{◌≡◌, ◌+◌, ◌≤◌, length};
 ghost use Rattle.fields.specs.Bytes.{byte_at, spelled};
 ghost use Rattle.fields.specs.Digits.{is_digit, is_letter, digit_value, number_at};

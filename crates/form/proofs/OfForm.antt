@@ -217,7 +217,7 @@ entries_read : {t : List ℕ} {i j : ℕ} (e : ℕ → ℕ) (k : ℕ) → ((q : 
 unfolding entries_text
 entries_read {t} {i} {j} e zero h a q l = absurd (omega arith)
 entries_read {t} {i} {j} e (suc k) h a q l = go (dec_lt q k)
-    (entries_read e k (λ x g. h x (omega arith)) (seg_first (entries_text e k) (tab ∷ bits_text (e k)) a) q)
+    (entries_read {j = i + length (entries_text e k)} e k (λ x g. h x (omega arith)) (seg_first (entries_text e k) (tab ∷ bits_text (e k)) a) q)
   where
     go : Dec (q < k) → (q < k → EntryRead t (i + 17 * q) (e q)) → EntryRead t (i + 17 * q) (e q)
     go (yes g) r = r g
@@ -266,7 +266,8 @@ columns_stand : {t : List ℕ} {i j : ℕ} (n : ℕ) (w : ℕ → ℕ) (e : ℕ 
     → Seg t (i + q * line_long n) (i + suc q * line_long n) (column_text n (w q) (e q))
 unfolding columns_text
 columns_stand {t} {i} {j} n w e zero a q l = absurd (omega arith)
-columns_stand {t} {i} {j} n w e (suc k) a q l = go (dec_lt q k) (columns_stand n w e k (seg_first (columns_text n w e k) line a) q)
+columns_stand {t} {i} {j} n w e (suc k) a q l = go (dec_lt q k)
+    (columns_stand {j = i + length (columns_text n w e k)} n w e k (seg_first (columns_text n w e k) line a) q)
   where
     line : List ℕ
     line = column_text n (w k) (e k)

@@ -1,6 +1,7 @@
 // The first line of a sheet, which fixes where every column stands: the counts of columns and rows, the seed, the rule and
 // the edition.
 #![tactic(auto)]
+
 ghost use Rattle.std.specs.Prelude.{◌≡◌, ◌+◌, ◌≤◌};
 ghost use Rattle.std.specs.Float.{binary64};
 ghost use Rattle.std.specs.Float.Ieee.{of_bits};

@@ -1,5 +1,6 @@
 // Whether a text is of the form of a sheet: its columns, and its first wrong line.
 #![tactic(auto)]
+
 ghost use Rattle.std.specs.Prelude.{◌≡◌, ◌+◌, ◌<◌, ◌≤◌, ◌*◌};
 ghost use Rattle.seq.specs.Keep.{all_to};
 ghost use Rattle.form.specs.Form.{is_entry, is_column, columns_from, wrong_line};

@@ -1,5 +1,6 @@
 // The first line of a sheet, written piece by piece, each where the one before it ends.
 #![tactic(auto)]
+
 ghost use Rattle.std.specs.Prelude.{◌++◌, ◌+◌, ◌≤◌, length};
 ghost use Rattle.fields.specs.Texts.{tabbed};
 ghost use Rattle.fields.specs.Steps.{WroteOn};

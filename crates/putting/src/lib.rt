@@ -1,5 +1,6 @@
 // Bits, counts and words written in a text.
 #![tactic(auto)]
+
 ghost use Rattle.std.specs.Prelude.{◌≡◌, ◌+◌, ◌≤◌, length};
 ghost use Rattle.fields.specs.Digits.{digit_for, digits_of};
 ghost use Rattle.fields.specs.Texts.{bits_text, width_of, count_text, tabbed, note_text};

@@ -1,6 +1,7 @@
 // When a job stops, what its rule is refused for and when its cap is met; below the tests of a job's arguments and below the stages,
 // which both read it.
 #![tactic(auto)]
+
 ghost use Rattle.std.specs.Prelude.{◌≡◌};
 ghost use Rattle.rules.specs.Rules.{cap_fault, rule_fault, meets};
 ghost use Rattle.rules.specs.declared.Rule.TheVariants.{Within};
@@ -8,14 +9,14 @@ ghost use Rattle.rules.specs.declared.Rule.TheVariants.{Within};
 use ieee::is_finite;
 
 // How many nonzero entries are allowed, if that is said.
-#[derive(Drop)]
+#[derive(Clone, Copy)]
 pub enum Cap {
     Absent,
     AtMost(usize),
 }
 
 // When a job stops: at so many nonzero entries, or before a change above the allowance.
-#[derive(Drop)]
+#[derive(Clone, Copy)]
 pub enum Rule {
     Target(usize),
     Within { allowance: f64, cap: Cap },

@@ -1,5 +1,6 @@
 // The writer of sheets: doubles go in as their bits, so that every NaN keeps its pattern.
 #![tactic(auto)]
+
 ghost use Rattle.std.specs.Prelude.{◌≡◌, ◌*◌, ◌≤◌, length};
 ghost use Rattle.fields.specs.Steps.{WroteOn};
 ghost use Rattle.form.specs.Sheets.{sheet_text};
