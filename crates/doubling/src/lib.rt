@@ -1,5 +1,6 @@
 // What a halving does beside the colouring: the indices that remain, their scales, the colour of at most half, and the doubled weights.
 #![tactic(auto)]
+
 ghost use Rattle.std.specs.Prelude.{◌≡◌, ◌≤◌, length};
 ghost use Rattle.seq.specs.Lists.{tabulate};
 ghost use Rattle.seq.specs.Indices.{Pushed, Below};

@@ -1,5 +1,6 @@
 // The free places of a vector: which they are, what is chosen there, put back there, and rounded there.
 #![tactic(auto)]
+
 ghost use Rattle.std.specs.Prelude.{◌≡◌, ◌≤◌, length};
 ghost use Rattle.seq.specs.Lists.{tabulate};
 ghost use Rattle.seq.specs.Sums.{plus_zero};

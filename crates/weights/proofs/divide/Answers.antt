@@ -1,5 +1,4 @@
 -- `weights::divide` meets its contract: the loop fills from the front with what stood there over d.
-use Prim.Native.Nat.{◌-◌}
 use native.Mathlib.Omega.{arith}
 use lib.Ieee.{nan}
 use Rattle.seq.proofs.Filling.{start, turn, still, whole}

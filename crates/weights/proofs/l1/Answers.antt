@@ -1,5 +1,4 @@
 -- `weights::l1` meets its contract: after j turns the sum is that of the first j magnitudes.
-use Prim.Native.Nat.{◌-◌}
 use mathlib.Core.Path.{◌≡◌, refl}
 use native.Mathlib.Omega.{arith}
 use lib.Ieee.{binary64}
