@@ -1,5 +1,6 @@
 // The terms of the cosine's series and their two sums, in fixed point: by the plain way, and by a shorter one with a mark of doubt.
 #![tactic(auto)]
+
 ghost use Rattle.std.specs.Prelude.{◌+◌, ◌*◌, ◌^◌, ◌<◌, ◌≤◌};
 ghost use Rattle.terms.specs.Turns.{CosAt, CosReady, CosTurned, NearAt, NearTurned};
 
