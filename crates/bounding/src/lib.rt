@@ -1,5 +1,6 @@
 // Whether rows less a column of doubles stay below a bound: a flip's test.
 #![tactic(auto)]
+
 ghost use Rattle.std.specs.Prelude.{◌≡◌, ◌≤◌, ◌+◌, length};
 ghost use Rattle.std.specs.Float.Ieee.{lt};
 ghost use Rattle.ieee.specs.Magnitude.{max_abs_to};

@@ -1,5 +1,6 @@
 // What a column does to a vector over the rows. A column is scaled by s, and |s| stands under it where the vector has one more row.
 #![tactic(auto)]
+
 ghost use Rattle.std.specs.Prelude.{◌≡◌, ◌≤◌, ◌+◌, length};
 ghost use Rattle.seq.specs.Lists.{tabulate};
 ghost use Rattle.columns.specs.Columns.{scaled_at};

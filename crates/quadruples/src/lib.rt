@@ -1,5 +1,6 @@
 // The sixteen signed quadruples of two numbers, made once for two columns of bits, and the columns added by them.
 #![tactic(auto)]
+
 ghost use Rattle.std.specs.Prelude.{◌≡◌, ◌++◌, ◌≤◌, ◌<◌, ◌+◌, ◌*◌, ◌/◌, ◌%◌, length, drop};
 ghost use Rattle.seq.specs.Lists.{tabulate};
 ghost use Rattle.votes.specs.Signing.{signed_two};

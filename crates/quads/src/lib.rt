@@ -1,5 +1,6 @@
 // Two columns of bits added by their signed quadruples, a byte of each at a time.
 #![tactic(auto)]
+
 ghost use Rattle.std.specs.Prelude.{◌≡◌, ◌≤◌, ◌<◌, ◌+◌, ◌*◌, length};
 ghost use Rattle.votes.specs.Signing.{added_twos};
 

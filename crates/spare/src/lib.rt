@@ -1,5 +1,6 @@
 // The spare bits of a matrix of votes, tested.
 #![tactic(auto)]
+
 ghost use Rattle.std.specs.Prelude.{◌≡◌, ◌≤◌, ◌<◌, ◌+◌, ◌*◌, ◌/◌, ◌%◌, ◌^◌, not, length};
 ghost use Rattle.seq.specs.Keep.{all_to};
 ghost use Rattle.limits.specs.Votes.{bit_at, bytes_of, spare_clear};

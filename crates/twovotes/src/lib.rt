@@ -1,5 +1,6 @@
 // Two columns of bits added at a time.
 #![tactic(auto)]
+
 ghost use Rattle.std.specs.Prelude.{◌≡◌, ◌++◌, ◌≤◌, ◌<◌, ◌+◌, ◌*◌, ◌/◌, ◌%◌, length, drop};
 ghost use Rattle.seq.specs.Lists.{tabulate};
 ghost use Rattle.votes.specs.Signing.{signed_two, added_twos};

@@ -1,5 +1,6 @@
 // What a column of bits, signing a number row by row, adds to a vector over the rows: row 0 is the lowest bit of byte 0, a set bit a minus.
 #![tactic(auto)]
+
 ghost use Rattle.std.specs.Prelude.{◌≡◌, ◌++◌, ◌≤◌, ◌<◌, ◌+◌, ◌*◌, ◌/◌, ◌%◌, length, drop};
 ghost use Rattle.seq.specs.Lists.{tabulate};
 ghost use Rattle.votes.specs.Signing.{signed_at, added_four};
