@@ -7,14 +7,14 @@ use mathlib.Core.Bool.{Bool, true, false, not}
 use lib.IntN.{ℤ, pos, negsuc}
 use lib.Dec.{T, eqb→eq}
 use lib.Pow.{pow_pos}
-use lib.Ieee.{Float, nan, inf, fin, Format, neg, add, sub, mul, div, lt, le, eq, ne, fits, is_nan, binary64}
+use lib.Ieee.{Float, nan, inf, fin, Format, neg, add, sub, mul, div, lt, le, eq, fits, is_nan, binary64}
 use Rattle.seq.specs.Choice.{pick}
 use Rattle.seq.specs.Sums.{sum_from, sum_to, plus_zero}
 use Rattle.ieee.specs.Flat.{flat, Alike, is_zero}
 use Rattle.ieee.specs.Magnitude.{abs_of, clamp_of, larger_of, smaller_of, above_of, largest_to}
 use Rattle.ieee.specs.Pass.{sum_up}
 use Rattle.ieee.proofs.Signs.{nought_is}
-use Rattle.ieee.proofs.Flat.{abs_flat, add-flat, div-flat, eq-flat, le-flat, lt-flat, mul-flat, ne-flat, neg-flat, sub-flat}
+use Rattle.ieee.proofs.Flat.{abs_flat, add-flat, div-flat, eq-flat, le-flat, lt-flat, mul-flat, neg-flat, sub-flat}
 
 pub alike_refl : (x : Float) → Alike x x
 alike_refl x = record { flatly = refl }

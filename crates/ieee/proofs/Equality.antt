@@ -7,7 +7,6 @@ use lib.IntN.{pos}
 use lib.Dec.{T}
 use lib.Pow.{pow_pos}
 use lib.Ieee.{Float, nan, inf, fin, Format, fits, low, emax}
-use lib.Ieee.Digits.{back}
 use Rattle.ieee.specs.Flat.{flat, Alike, is_zero}
 use Rattle.ieee.specs.Magnitude.{signum_of}
 use Rattle.ieee.specs.Units.{mag, is_num}

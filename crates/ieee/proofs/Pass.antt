@@ -4,13 +4,12 @@ use mathlib.Core.Path.{◌≡◌, sym, ap, ◌∙◌, subst}
 use Prim.Native.Nat.{ℕ, zero, suc, ◌+◌, ◌*◌, ◌^◌, ◌≤◌, ◌<◌, zero-le}
 use native.Mathlib.Nat.{le_trans, le_of_eq, le_of_lt, lt_of_lt_of_le, lt_of_le_of_lt, mul-le-mul_right}
 use native.Mathlib.Omega.{arith}
-use mathlib.Core.Bool.{Bool, true, false, not}
+use mathlib.Core.Bool.{Bool, true, false}
 use lib.Dec.{T, ltb→lt}
 use lib.Pow.{pow-add, pow-lt, pow_mono}
 use lib.Ieee.{Float, Format, mul, div, eq, ne, low, prec, emax}
 use lib.Ieee.Scale.{overflow}
 use Rattle.seq.specs.Choice.{pick}
-use Rattle.seq.specs.Keep.{count}
 use Rattle.ieee.specs.Magnitude.{abs_of}
 use Rattle.ieee.specs.Pass.{Turned, kept, once, again, gone}
 use Rattle.ieee.specs.Units.{mag}
@@ -21,7 +20,6 @@ use Rattle.ieee.proofs.Signs.{mag-nought, nonzero, nonzero_is, nought, nought-fi
 use Rattle.ieee.proofs.Sums.{abs_mag, abs_size, sum_bound}
 use Rattle.ieee.proofs.Norms.{l1, l1_ge, l1-size}
 use Rattle.ieee.proofs.Normalised.{Normal, normalised}
-use Rattle.ieee.proofs.Counting.{count-lt}
 
 pub record Passed (f : Format) (x z : Float) : Type 0 where
   pub ends : Finite f z

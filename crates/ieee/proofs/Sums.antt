@@ -6,7 +6,7 @@ use native.Mathlib.Omega.{arith}
 use mathlib.Core.Logic.{◌⊎◌, inl, inr}
 use mathlib.Core.Bool.{true, false, true≢false}
 use lib.Dec.{T}
-use lib.Ieee.{Float, nan, inf, fin, Format, prec, size, add, fits}
+use lib.Ieee.{Float, nan, inf, fin, Format, prec, add, fits}
 use lib.Ieee.Fits.{add-fits}
 use lib.Ieee.Scale.{overflow, finite}
 use Rattle.ieee.specs.Units.{sign, mag, is_num}

@@ -1,6 +1,5 @@
 -- `basis::less_scaled` meets its contract: the loop fills v, and reads each entry before it writes it.
 use Rattle.seq.proofs.Filling.{start, turn, still, whole}
-use Prim.Native.Nat.{◌-◌}
 use native.Mathlib.Omega.{arith}
 use lib.Ieee.{nan}
 use Rattle.basis.proofs.less_scaled.Goals as goal

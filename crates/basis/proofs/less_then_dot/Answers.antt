@@ -1,5 +1,4 @@
 -- `basis::less_then_dot` meets its contract: the loop fills v, and the sum is that of the products with what it has filled in.
-use Prim.Native.Nat.{◌-◌}
 use mathlib.Core.Path.{◌≡◌, refl, sym, ap, ◌∙◌}
 use native.Mathlib.Omega.{arith}
 use lib.Ieee.{nan, binary64, mul}

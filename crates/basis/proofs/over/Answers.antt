@@ -1,6 +1,5 @@
 -- `basis::over` meets its contract: the loop fills the part that is lent.
 use Rattle.seq.proofs.Filling.{start, turn, whole}
-use Prim.Native.Nat.{◌-◌}
 use mathlib.Core.Path.{refl}
 use native.Mathlib.Omega.{arith}
 use Rattle.basis.proofs.over.Goals as goal

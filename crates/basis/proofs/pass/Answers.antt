@@ -1,5 +1,5 @@
 -- `basis::pass` meets its contract: after k turns the first k vectors are projected out, and c is what is left along the next.
-use Prim.Native.Nat.{ℕ, ◌+◌, ◌*◌, ◌-◌}
+use Prim.Native.Nat.{ℕ, ◌+◌, ◌*◌}
 use mathlib.Core.Path.{◌≡◌, refl, sym, ap, ◌∙◌}
 use native.Mathlib.Nat.{zero-mul, add-sub_cancel_left}
 use native.Mathlib.Omega.{arith}

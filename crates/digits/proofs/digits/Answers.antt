@@ -1,6 +1,6 @@
 -- `digits::digits` meets its contract: where the exact rest is small enough, the guess or the next number is the root, whatever the guess is.
 use Rattle.digits.proofs.RootGuess.{rest_is, here, next, upper_small}
-use Rattle.std.proofs.Common.{◌≡◌, ◌+◌, ◌-◌, ◌*◌, ◌%◌, ◌^◌, ◌<◌, arith}
+use Rattle.std.proofs.Common.{◌%◌, ◌^◌, arith}
 use Rattle.digits.proofs.digits.Goals as goal
 
 pub excess-rest-requires : goal.excess-rest-requires

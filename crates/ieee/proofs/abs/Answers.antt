@@ -1,7 +1,6 @@
 -- `ieee::abs` meets its contract: whether x is above 0.0 says which of x and 0.0 - x is the magnitude.
 use mathlib.Core.Path.{sym, subst}
 use lib.Dec.{T}
-use lib.Ieee.{binary64, fits}
 use Rattle.ieee.proofs.Magnitudes.{abs_kept, abs_turned}
 use Rattle.ieee.proofs.abs.Goals as goal
 

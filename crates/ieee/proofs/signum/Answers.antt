@@ -2,7 +2,6 @@
 use mathlib.Core.Path.{sym, subst}
 use native.Mathlib.Omega.{arith}
 use lib.Dec.{T}
-use lib.Ieee.{binary64, fits}
 use Rattle.ieee.proofs.Magnitudes.{no_nan_self, signum_plus, signum_minus, signum_nan}
 use Rattle.ieee.proofs.signum.Goals as goal
 

@@ -1,6 +1,5 @@
 -- `limits::all_bounded` meets its contract: after i turns it says whether the first i entries pass.
 use Rattle.seq.specs.Keep.{all_to}
-use Prim.Native.Nat.{◌-◌}
 use mathlib.Core.Path.{◌≡◌, refl}
 use native.Mathlib.Omega.{arith}
 use native.Mathlib.Numerals.{add-one}

@@ -1,6 +1,5 @@
 -- `limits::all_finite` meets its contract: after i turns it says whether the first i numbers are finite.
 use Rattle.seq.specs.Keep.{all_to}
-use Prim.Native.Nat.{◌-◌}
 use mathlib.Core.Path.{◌≡◌, refl}
 use native.Mathlib.Omega.{arith}
 use native.Mathlib.Numerals.{add-one}

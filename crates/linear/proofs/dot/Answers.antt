@@ -2,7 +2,6 @@
 use Rattle.seq.specs.Sums.{sum_from}
 use Rattle.linear.specs.Vectors.{dot_of}
 use Rattle.seq.proofs.Summing.{sum_more}
-use Prim.Native.Nat.{◌-◌}
 use mathlib.Core.Path.{◌≡◌, refl}
 use native.Mathlib.Omega.{arith}
 use lib.ListN.{length}

@@ -2,7 +2,7 @@
 use Rattle.seq.specs.Sums.{at}
 use Rattle.ieee.specs.Magnitude.{max_abs_to}
 use Rattle.linear.proofs.Larger.{max-more, max-passed}
-use Prim.Native.Nat.{◌-◌, ◌+◌}
+use Prim.Native.Nat.{◌+◌}
 use mathlib.Core.Path.{◌≡◌, refl, ◌∙◌}
 use native.Mathlib.Omega.{arith}
 use native.Mathlib.Numerals.{add-one}

@@ -1,5 +1,4 @@
 -- `linear::next_larger` meets its contract: no magnitude that the loop has left behind is above `most`.
-use Prim.Native.Nat.{◌-◌}
 use Rattle.linear.proofs.Larger.{none_larger, one_not_larger}
 use Rattle.linear.proofs.next_larger.Goals as goal
 

@@ -1,5 +1,4 @@
 -- `worst::pass_over` meets its contract: what the loop has left behind is passed over.
-use Prim.Native.Nat.{◌-◌}
 use mathlib.Core.Path.{sym, ◌∙◌}
 use native.Mathlib.Omega.{arith}
 use Rattle.seq.proofs.Passing.{none_passed, four-passed}

@@ -1,5 +1,5 @@
 -- `worst::worst` meets its contract: w is the worst of the rows below i, and top its magnitude, so that a row of no larger one is passed over.
-use Prim.Native.Nat.{◌+◌, ◌-◌}
+use Prim.Native.Nat.{◌+◌}
 use mathlib.Core.Path.{◌≡◌, refl, sym, ap, ◌∙◌}
 use native.Mathlib.Omega.{arith}
 use lib.Ieee.{div, of_bits}
