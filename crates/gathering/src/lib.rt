@@ -1,5 +1,6 @@
 // Sheets from a bad cable: the good lines of a damaged sheet, read in pieces of any length and kept in lent buffers.
 #![tactic(auto)]
+
 ghost use Rattle.std.specs.Prelude.{◌≡◌, ◌+◌, ◌≤◌, ◌<◌, [], ◌∷◌, length};
 ghost use Rattle.seq.specs.Lists.{repeated};
 ghost use Rattle.gathering.specs.Kept.{is_line};
@@ -10,7 +11,7 @@ use lines::is_column;
 
 // What was read so far: the whole lines, the bytes of the one that is not whole that are held, where the kept text ends, the kept columns,
 // whether the first line is good, and its sizes.
-#[derive(Drop)]
+#[derive(Clone, Copy)]
 pub struct State {
     pub lines: usize,
     pub long: usize,

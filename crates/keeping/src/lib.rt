@@ -1,5 +1,6 @@
 // The good sheet of what is saved, written.
 #![tactic(auto)]
+
 ghost use Rattle.std.specs.Prelude.{◌≡◌, ◌+◌, ◌≤◌, ◌<◌, length};
 ghost use Rattle.fields.specs.Fields.{count_at};
 ghost use Rattle.fields.specs.Steps.{WroteOn};

@@ -1,5 +1,6 @@
 // The reader of sheets as bits: doubles come out as their bits, so that every NaN keeps its pattern.
 #![tactic(auto)]
+
 ghost use Rattle.std.specs.Prelude.{◌≡◌, ◌++◌, ◌*◌, ◌≤◌, length, drop};
 ghost use Rattle.seq.specs.Lists.{tabulate};
 ghost use Rattle.fields.specs.Fields.{bits_at};

@@ -1,5 +1,6 @@
 // What is saved of a damaged sheet: the good sheet and the numbers of the lines that are lost, written from what is held of it.
 #![tactic(auto)]
+
 ghost use Rattle.std.specs.Prelude.{◌≡◌, ◌+◌, ◌≤◌, ◌<◌, leb, length};
 ghost use Rattle.fields.specs.Steps.{WroteOn};
 ghost use Rattle.gathering.specs.Lines.{no_lines, after};

@@ -1,6 +1,6 @@
 -- The lines of a text, read byte by byte, are the lines that it is made of; and a line more is one line more.
 use borrow.Author.Tests.{eqb-true}
-use Prim.Native.Nat.{ℕ, zero, suc, ◌+◌, ◌<◌}
+use Prim.Native.Nat.{ℕ, suc, ◌+◌, ◌<◌}
 use mathlib.Core.Path.{◌≡◌, refl, sym, ap, ◌∙◌, subst}
 use mathlib.Core.Bool.{Bool, true, false}
 use mathlib.Core.List.{List, [], ◌∷◌, ◌++◌, append-nil, append_assoc}
@@ -74,7 +74,7 @@ text_more : {t : List ℕ} {s : Lines} → LinesOf t s → (u : List ℕ) → Li
 unfolding after
 text_more {t} {s} e [] = subst (λ (x : List ℕ). LinesOf x s) (sym (append-nil t)) e
 text_more {t} {s} e (b ∷ u) =
-    subst (λ (x : List ℕ). LinesOf x (after (more s b) u)) (append_assoc t (b ∷ []) u) (text_more (one_more e b) u)
+    subst (λ (x : List ℕ). LinesOf x (after (more s b) u)) (append_assoc t (b ∷ []) u) (text_more {t = t ++ (b ∷ [])} {s = more s b} (one_more e b) u)
 
 -- The lines of every text are the lines that it is made of.
 pub lines_are_the_text : (text : List ℕ) → LinesOf text (after no_lines text)

@@ -1,13 +1,12 @@
 -- A sheet that is of the form comes out unchanged: every line behind the first is kept, and their number is the one that the first line says.
 use borrow.Author.Tests.{eq-eqb, ne_eqb, lt-ltb, le-leb}
-use Prim.Native.Nat.{ℕ, zero, suc, ◌+◌, ◌-◌, ◌≤◌, ◌<◌}
+use Prim.Native.Nat.{ℕ, zero, suc, ◌+◌, ◌≤◌, ◌<◌}
 use mathlib.Core.Path.{◌≡◌, refl, sym, ap, ◌∙◌}
 use mathlib.Core.Bool.{Bool, true, false, ◌&&◌, and-false}
 use mathlib.Core.List.{List, [], ◌∷◌, ◌++◌, append-nil}
 use native.Mathlib.Omega.{arith}
-use lib.Dec.{eqb, leb, ltb}
+use lib.Dec.{eqb, ltb}
 use lib.ListN.{length}
-use Rattle.seq.specs.Choice.{pick}
 use Rattle.seq.specs.Lists.{tabulate}
 use Rattle.seq.specs.Keep.{count}
 use Rattle.seq.proofs.Filling.{length-tab, get_or-tab}
@@ -19,7 +18,7 @@ use Rattle.form.proofs.Segments.{whole_seg}
 use Rattle.form.proofs.OfForm.{head_read, column_good, length_column}
 use Rattle.form.proofs.Taken.{taken_is_of_the_form}
 use Rattle.gathering.specs.Lines.{Lines, no_lines, after, line_at}
-use Rattle.keeping.specs.Saved.{many, lost_line, lost_text, corrected, good_sheet, none_left, front_text, judged, salvaged}
+use Rattle.keeping.specs.Saved.{many, lost_text, corrected, good_sheet, none_left, front_text, judged, salvaged}
 use Rattle.gathering.specs.Kept.{is_first, is_line, kept_by, kept, kept_text}
 use Rattle.gathering.proofs.Indexed.{first_not_kept}
 use Rattle.saved.proofs.Texts.{sheet_lines}
