@@ -1,6 +1,7 @@
 // A column of a lent matrix, and what it does to a vector over the rows. The matrix is lent as doubles, or as bits where there are any;
 // the choice is made here, once a column, so that whatever stands above has one text and one proof.
 #![tactic(auto)]
+
 ghost use Rattle.std.specs.Prelude.{◌≡◌, ◌≤◌, ◌+◌, ◌*◌, length};
 ghost use Rattle.seq.specs.Lists.{tabulate};
 ghost use Rattle.limits.specs.Reading.{read_of, Lies};

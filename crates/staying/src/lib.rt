@@ -1,5 +1,6 @@
 // Whether a vector over the rows, less a column of bits, stays below a bound in magnitude. It decides a flip.
 #![tactic(auto)]
+
 ghost use Rattle.std.specs.Prelude.{◌≡◌, true, ◌≤◌, ◌<◌, ◌+◌, ◌*◌, length};
 ghost use Rattle.std.specs.Float.Ieee.{lt};
 ghost use Rattle.seq.specs.Sums.{plus_zero};
