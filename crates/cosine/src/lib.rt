@@ -1,5 +1,6 @@
 // The cosine in fixed point, behind the Gaussian draw: from a double to its square, and from the series' sums back to a double.
 #![tactic(auto)]
+
 ghost use Rattle.std.specs.Prelude.{◌≡◌, ◌*◌, ◌^◌, ◌<◌, ◌≤◌};
 ghost use Rattle.std.specs.Float.{binary64};
 ghost use Rattle.std.specs.Float.Ieee.{to_bits};

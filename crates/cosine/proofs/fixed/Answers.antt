@@ -1,5 +1,4 @@
 -- `cosine::fixed` meets its contract: either shift is the division by 2 ^ 1014.
-use borrow.Author.Rules.{rules}
 use Prim.Native.Nat.{ℕ, ◌+◌, ◌-◌, ◌*◌, ◌/◌, ◌%◌, ◌^◌, ◌≤◌, ◌<◌}
 use mathlib.Core.Path.{◌≡◌, sym, ap, ◌∙◌}
 use native.Mathlib.Nat.{mul-div-mul_right, mul-div_cancel, mul_assoc, mod-lt}
@@ -7,8 +6,7 @@ use native.Mathlib.Omega.{arith}
 use lib.Dec.{lit<}
 use lib.Pow.{pow_pos, pow-add, shl_exact}
 use lib.Bits.{and_mask, mask_lt}
-use Rattle.cosine.proofs.fixed.Statement.{statement}
-use Rattle.cosine.proofs.fixed.Tie as tie
+use Rattle.cosine.proofs.fixed.Goals as goal
 
 -- a shift down, and a shift up, of m * 2 ^ e by a fixed number of places
 down : (m e k : ℕ) → e ≤ k → m / 2 ^ (k - e) ≡ m * 2 ^ e / 2 ^ k
@@ -25,29 +23,17 @@ up m e k h =
     ∙ ap (λ (x : ℕ). x / 2 ^ k) (sym (mul_assoc m (2 ^ (e - k)) (2 ^ k)))
     ∙ mul-div_cancel (m * 2 ^ (e - k)) (pow_pos k))
 
-add-m : tie.Need-overflow-add-m
-add-m c = omega (arith, mask_lt c.args.b 52)
+pub overflow_add-m : goal.overflow_add-m
+overflow_add-m c = omega (arith, mask_lt c.args.b 52)
 
-sub-result : tie.Need-overflow-sub-result
-sub-result c = search rules
-
-shr-result : tie.Need-overflow-shr-result
-shr-result c = search rules
-
-shl-result : tie.Need-overflow-shl-result
-shl-result c = search rules
-
-returns : tie.Need-returns
-returns c =
-    let b = c.before.args.b in
+pub returns-then-e-lt1014 : goal.returns-then-e-lt1014
+returns-then-e-lt1014 c =
+    let b = c.args.b in
     rw (and_mask b 52) (down (b % 2 ^ 52 + 2 ^ 52) (b / 2 ^ 52) 1014 (omega arith))
 
-returns-2 : tie.Need-returns-2
-returns-2 c =
-    let b = c.before.args.b in
+pub returns-else-e-lt1014 : goal.returns-else-e-lt1014
+returns-else-e-lt1014 c =
+    let b = c.args.b in
     let m : b % 2 ^ 52 + 2 ^ 52 < 2 ^ 53 = omega (arith, mod-lt b {m = 2 ^ 52} (lit< tt)) in
     rw (and_mask b 52)
     (shl_exact {a = b % 2 ^ 52 + 2 ^ 52} 53 (b / 2 ^ 52 - 1014) 64 m (omega arith) ∙ up (b % 2 ^ 52 + 2 ^ 52) (b / 2 ^ 52) 1014 (omega arith))
-
-pub fixed-spec : {M : Type 1} → statement M
-fixed-spec = tie.close (tie.spec add-m sub-result shr-result shl-result returns returns-2)
