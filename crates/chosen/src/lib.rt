@@ -1,5 +1,6 @@
 // How an entry of a pass is read, and the next column at which a direction is not 0.
 #![tactic(auto)]
+
 ghost use Rattle.std.specs.Prelude.{◌≡◌, ◌<◌, length};
 ghost use Rattle.chosen.specs.Entries.{entry_of};
 ghost use Rattle.chosen.specs.ChosenColumns.{Chosen};

@@ -1,5 +1,6 @@
 // A flip's column of a lent matrix, of doubles or of bits: its test, and what it takes from the rows.
 #![tactic(auto)]
+
 ghost use Rattle.std.specs.Prelude.{◌≡◌, ◌≤◌, ◌+◌, ◌*◌, length};
 ghost use Rattle.std.specs.Float.Ieee.{lt};
 ghost use Rattle.seq.specs.Lists.{tabulate};

@@ -1,5 +1,6 @@
 // Two columns of a lent matrix added at a time, of doubles or of bits: the choice is made here, once for both.
 #![tactic(auto)]
+
 ghost use Rattle.std.specs.Prelude.{◌≡◌, ◌≤◌, ◌+◌, ◌*◌, length};
 ghost use Rattle.seq.specs.Lists.{tabulate};
 ghost use Rattle.limits.specs.Reading.{read_of, Lies};
