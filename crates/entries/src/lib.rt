@@ -1,5 +1,6 @@
 // How an entry is read: a column is chosen from the matrix and scaled; what it then does to a vector is in the crate reading.
 #![tactic(auto)]
+
 ghost use Rattle.std.specs.Prelude.{◌≡◌, [], ◌<◌, length};
 ghost use Rattle.seq.specs.Lists.{tabulate};
 ghost use Rattle.seq.specs.Sums.{plus_zero, at};
