@@ -1,5 +1,6 @@
 // The tests of a call that has several jobs on one matrix.
 #![tactic(auto)]
+
 ghost use Rattle.std.specs.Prelude.{◌≡◌, ◌||◌, ◌≤◌, ltb};
 ghost use Rattle.seq.specs.Choice.{pick};
 ghost use Rattle.limits.specs.Limits.{too_large};

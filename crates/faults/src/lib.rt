@@ -1,6 +1,7 @@
 // What a job is refused for before any work is done, and what a call for several jobs on one matrix is, its items. And the rule that a host
 // names by a number, since a number that names none is refused.
 #![tactic(auto)]
+
 ghost use Rattle.std.specs.Prelude.{◌≡◌, ◌≤◌};
 ghost use Rattle.faults.specs.Faults.{rule_named, edition_fault, room_fault, size_fault, weight_fault, value_fault, job_fault};
 ghost use Rattle.faults.specs.Faults.{item_fault};
