@@ -14,7 +14,7 @@ use Rattle.seq.specs.Sums.{plus_zero, at}
 use Rattle.seq.proofs.Filling.{length-tab, get_or-tab, tab_cong}
 use Rattle.rows.specs.Blocks.{plus_rows, plus_two_rows}
 use Rattle.change.specs.Margins.{change_to}
-use Rattle.change.specs.Unmoved.{Unmoved, Differs}
+use Rattle.change.specs.Unmoved.{Unmoved}
 
 -- no place, and one place more, does not differ
 pub unmoved_none : (before after : List Float) (from : ℕ) → Unmoved before after from from

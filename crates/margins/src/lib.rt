@@ -1,6 +1,7 @@
 // How far margins move between two weight vectors, and which words turn. Rows are taken 64 at a time, column by column, so that no
 // scratch is needed.
 #![tactic(auto)]
+
 ghost use Rattle.std.specs.Prelude.{◌≡◌};
 ghost use Rattle.margins.specs.Answers.{margin_fault, change_answer, threshold_fault, turned_answer};
 

@@ -1,5 +1,6 @@
 // Some rows of the margins at a time, column by column, so that no scratch is needed: how many, and what a column adds to them.
 #![tactic(auto)]
+
 ghost use Rattle.std.specs.Prelude.{◌≡◌, ◌≤◌, ◌+◌, ◌%◌, length};
 ghost use Rattle.seq.specs.Lists.{tabulate};
 ghost use Rattle.limits.specs.Reading.{read_of, Lies};

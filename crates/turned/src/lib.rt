@@ -1,5 +1,6 @@
 // How many words turn between two weight vectors, each at its threshold.
 #![tactic(auto)]
+
 ghost use Rattle.std.specs.Prelude.{◌≡◌, ◌≤◌, ◌+◌, ◌%◌, length};
 ghost use Rattle.seq.specs.Lists.{tabulate};
 ghost use Rattle.limits.specs.Reading.{read_of};
