@@ -29,7 +29,8 @@ loop-p-preserved c =
     let r = c.args.rest.now in
     let f = is_on c.args.w.now in
     elim c.if-w-j.branch [
-      | then-w-j t ↦ rw (t.out-is, t.k-is, chooses f r p t.if-w-j.true) (push (get_or r p 0) v.0 (omega arith), omega arith, simp length-set v.2, omega arith)
+      | then-w-j t ↦ rw (t.out-is, t.k-is, chooses f r p t.if-w-j.true)
+          (push (get_or r p 0) v.0 (omega arith), omega arith, simp length-set v.2, omega arith)
       | else-w-j t ↦ rw (t.out-is, t.k-is, leaves f r p t.if-w-j.false) (v.0, omega arith, v.2, omega arith)
     ]
 

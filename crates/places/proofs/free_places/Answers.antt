@@ -19,7 +19,8 @@ loop-j-preserved c =
     let j = c.loop-j.j in
     let f = is_set c.args.free.now in
     elim c.if-free-j-eq1.branch [
-      | then-free-j-eq1 w ↦ rw (w.places-is, w.l-is, keeps f j (eq-eqb _ _ w.if-free-j-eq1.true)) (omega arith, omega arith, simp length-set v.2, push j v.3 (omega arith))
+      | then-free-j-eq1 w ↦ rw (w.places-is, w.l-is, keeps f j (eq-eqb _ _ w.if-free-j-eq1.true))
+          (omega arith, omega arith, simp length-set v.2, push j v.3 (omega arith))
       | else-free-j-eq1 w ↦ rw (w.places-is, w.l-is, skips f j (ne_eqb _ _ w.if-free-j-eq1.false)) (omega arith, omega arith, v.2, v.3)
     ]
 

@@ -8,7 +8,8 @@ use lib.ListN.{length}
 use Rattle.places.proofs.free_places.Given as goal
 
 abbrev pub invariant-loop-j : goal.invariant-loop-j
-invariant-loop-j l = (l.j ≤ length l.free) × (l.l ≤ l.j) × (length l.places ≡ length l.initial.places) × Pushed (keep (is_set l.free) l.j) l.l l.places
+invariant-loop-j l =
+    (l.j ≤ length l.free) × (l.l ≤ l.j) × (length l.places ≡ length l.initial.places) × Pushed (keep (is_set l.free) l.j) l.l l.places
 
 abbrev pub decreases-loop-j : goal.decreases-loop-j
 decreases-loop-j l = length l.free - l.j
