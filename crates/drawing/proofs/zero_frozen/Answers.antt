@@ -14,7 +14,7 @@ loop-p-init c = start _ _
 
 pub loop-p-preserved : goal.loop-p-preserved
 loop-p-preserved c =
-    elim c.if-free-p-ne1.branch [ then-free-p-ne1 w ↦ rw w.1 (turn c.loop-p.invariant (omega arith) (rw (ne_eqb _ _ w.0.true))) | else-free-p-ne1 w ↦ rw w.1 (skip nan c.loop-p.invariant (omega arith) (rw (eq-eqb _ _ w.if-free-p-ne1.false))) ]
+    elim c.if-free-p-ne1.branch [ then-free-p-ne1 w ↦ rw w.g-is (turn c.loop-p.invariant (omega arith) (rw (ne_eqb _ _ w.if-free-p-ne1.true))) | else-free-p-ne1 w ↦ rw w.g-is (skip nan c.loop-p.invariant (omega arith) (rw (eq-eqb _ _ w.if-free-p-ne1.false))) ]
 
 pub returns : goal.returns
 unfolding zeroed
