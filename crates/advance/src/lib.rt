@@ -1,5 +1,6 @@
 // The move along a direction: downhill, and as far as every coordinate stays in [-1, 1].
 #![tactic(auto)]
+
 ghost use Rattle.std.specs.Prelude.{◌≡◌, ◌≤◌, ◌+◌, length};
 ghost use Rattle.chosen.specs.Entries.{entry_of};
 ghost use Rattle.chosen.specs.ChosenColumns.{Chosen};

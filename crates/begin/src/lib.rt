@@ -1,5 +1,6 @@
 // The start of a phase: the rows most at risk are blocked.
 #![tactic(auto)]
+
 ghost use Rattle.std.specs.Prelude.{◌≡◌, ℕ, ◌≤◌, ◌<◌, ◌*◌, ◌+◌, length, get_or};
 ghost use Rattle.seq.specs.Lists.{repeated};
 ghost use Rattle.chosen.specs.Entries.{entry_of};

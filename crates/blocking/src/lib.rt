@@ -1,5 +1,6 @@
 // A row is blocked: it is offered to the basis.
 #![tactic(auto)]
+
 ghost use Rattle.std.specs.Prelude.{◌≡◌, ◌≤◌, ◌*◌, ◌+◌, length};
 ghost use Rattle.seq.specs.Sums.{plus_zero};
 ghost use Rattle.basis.specs.Held.{Inserted};

@@ -1,5 +1,6 @@
 // What a colouring is: the record of what it counts; the definitions are in specs/, the laws in proofs/.
 #![tactic(auto)]
+
 use draw::SplitMix64;
 
 // What a colouring leaves beside the colours: how many directions were drawn, how many sweeps made, and the generator after it.

@@ -1,5 +1,6 @@
 // The tests of a direct colouring, what it answers, and its colours written.
 #![tactic(auto)]
+
 ghost use Rattle.std.specs.Prelude.{◌≡◌, ◌*◌, ◌+◌, length};
 ghost use Rattle.seq.specs.Lists.{tabulate};
 ghost use Rattle.colorfaults.specs.Discrepancy.{coloring_fault, colour_at};

@@ -1,5 +1,6 @@
 // The colouring of chosen and scaled columns: phases of the walk until no coordinate is free, then local search.
 #![tactic(auto)]
+
 ghost use Rattle.std.specs.Prelude.{◌≡◌, ◌≤◌, ◌*◌, ◌+◌, length};
 ghost use Rattle.seq.specs.Sums.{plus_zero};
 ghost use Rattle.walked.specs.Walk.{free_ones};

@@ -1,5 +1,6 @@
 // A direction of the walk, and the step along it.
 #![tactic(auto)]
+
 ghost use Rattle.std.specs.Prelude.{◌≡◌, ◌++◌, ◌*◌, ◌+◌, length, drop};
 ghost use Rattle.seq.specs.Lists.{part};
 ghost use Rattle.direction.specs.Direction.{turned};

@@ -1,5 +1,6 @@
 // The public colouring of a lent matrix.
 #![tactic(auto)]
+
 ghost use Rattle.seq.specs.Sums.{plus_zero};
 ghost use Rattle.colored.specs.Coloring.{coloring_of};
 ghost use Rattle.colored.specs.Fresh.{ColoredAs};

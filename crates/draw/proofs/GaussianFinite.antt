@@ -1,5 +1,5 @@
 -- The Gaussian of every generator is finite, and at most 16 in size: the logarithm is above -64, so that the root is at most 16, and the cosine is at most 1.
-use Rattle.std.proofs.Common.{◌≡◌, ℕ, zero, suc, ◌+◌, ◌*◌, ◌^◌, ◌<◌, ◌≤◌, Bool, true, false, not, T, eqb, ℤ, pos, sym, refl, ◌∙◌, true≢false, zero-le, le_trans, lt_of_lt_of_le, mul-le-mul_right, zero-lt-suc, mul_assoc, mul-le-mul, mul-pos, lt_of_not-le, zero-mul, arith, lit<, lit≤, eqb→eq, pow_pos, pow_mono, shl_lt}
+use Rattle.std.proofs.Common.{◌≡◌, ℕ, zero, suc, ◌+◌, ◌*◌, ◌^◌, ◌<◌, ◌≤◌, Bool, true, false, not, T, eqb, ℤ, pos, sym, refl, true≢false, zero-le, le_trans, lt_of_lt_of_le, mul-le-mul_right, zero-lt-suc, mul_assoc, mul-le-mul, mul-pos, lt_of_not-le, zero-mul, arith, lit<, lit≤, eqb→eq, pow_pos, pow_mono, shl_lt}
 use native.Mathlib.Nat.{zero-div}
 use native.Mathlib.Decide.{dec_le}
 use lib.Ieee.{Float, nan, inf, fin, binary64, up, down, unlike, neg, mul, round, of_int, to_bits, fits}
@@ -15,7 +15,7 @@ use Rattle.root.specs.Root.{sqrt_of}
 use Rattle.root.specs.Nearest.{NearestRoot, IsRoot}
 use Rattle.root.proofs.RootResults.{finite_of_value}
 use Rattle.root.proofs.RootNearest.{sqrt_is_root}
-use Rattle.cosine.specs.Cosine.{size, negative, square, signed, unit_of, cos_of, cosine_of, tau}
+use Rattle.cosine.specs.Cosine.{size, negative, square, signed, unit_of, cosine_of, tau}
 use Rattle.logarithm.specs.Logarithm.{depth, ln_of}
 use Rattle.draw.specs.declared.SplitMix64.{SplitMix64}
 use Rattle.draw.specs.SplitMix.{after_of}

@@ -1,6 +1,7 @@
 // The draws: the generator SplitMix64, the uniform and the Gaussian draw. The two series behind the Gaussian are crates of their own,
 // cosine and logarithm.
 #![tactic(auto)]
+
 ghost use Rattle.std.specs.Prelude.{◌≡◌, ◌*◌, ◌%◌, ◌^◌};
 ghost use Rattle.draw.specs.SplitMix.{mixed, seeded, output_of, after_of};
 ghost use Rattle.draw.specs.Uniform.{uniform_of, uniform_in};

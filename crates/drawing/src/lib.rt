@@ -1,5 +1,6 @@
 // A direction drawn: a Gaussian for every coordinate of the phase, frozen ones zeroed, and its part along the basis taken out.
 #![tactic(auto)]
+
 ghost use Rattle.std.specs.Prelude.{◌≡◌, ◌≤◌, ◌*◌, ◌+◌, length};
 ghost use Rattle.seq.specs.Sums.{plus_zero};
 ghost use Rattle.basis.specs.Held.{vectors_in};

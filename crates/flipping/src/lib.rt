@@ -1,5 +1,6 @@
 // One flip of a colour, tried: local_search's inner step.
 #![tactic(auto)]
+
 ghost use Rattle.std.specs.Prelude.{◌≡◌, ◌<◌, length};
 ghost use Rattle.chosen.specs.Entries.{entry_of};
 ghost use Rattle.chosen.specs.ChosenColumns.{Chosen};

@@ -1,5 +1,6 @@
 // One halving: the remaining rest is coloured, and its weights are doubled or zeroed.
 #![tactic(auto)]
+
 ghost use Rattle.std.specs.Prelude.{◌≡◌, ◌≤◌, length};
 ghost use Rattle.seq.specs.Sums.{plus_zero};
 ghost use Rattle.seq.specs.Indices.{Below};

@@ -1,5 +1,6 @@
 // What the C interface has of its own: the version, draws that move a state on in place, and a cap by the number that a host names.
 #![tactic(auto)]
+
 ghost use Rattle.std.specs.Prelude.{◌≡◌};
 ghost use Rattle.interface.specs.Version.{version_number};
 ghost use Rattle.interface.specs.Caps.{cap_of};

@@ -1,7 +1,8 @@
-// The generator lent: each draw moves it on in place, as 000's do, over the draws by value. The borrow checker covers no reference
-// to a struct, so each function here is proved by a walk of its code. Whoever calls `two_gaussians`, which takes and gives plain
-// data, needs no walk.
+// The generator lent: each draw moves it on in place, as 000's do, over the draws by value. A struct cannot be moved out from behind a
+// reference, so a draw in place reads the generator's two fields, and hands on one that has them. Whoever calls `two_gaussians` takes
+// and gives plain data.
 #![tactic(auto)]
+
 ghost use Rattle.std.specs.Prelude.{◌≡◌};
 ghost use Rattle.draw.specs.SplitMix.{seeded, output_of, after_of};
 ghost use Rattle.draw.specs.Uniform.{uniform_in};
@@ -20,7 +21,11 @@ impl Generator {
     pub fn next_u64(&mut self) -> u64
         ensures { (result ≡ output_of self.old.rng) × (self.new.rng ≡ after_of self.old.rng) }
     {
-        let word = self.rng.next_u64();
+        let rng = SplitMix64 {
+            state: self.rng.state,
+            edition: self.rng.edition,
+        };
+        let word = rng.next_u64();
         self.rng = word.rng;
         word.value
     }
@@ -30,7 +35,11 @@ impl Generator {
         ensures { (result ≡ uniform_in self.old.rng)
             × (self.new.rng ≡ after_of self.old.rng) }
     {
-        let draw = self.rng.uniform();
+        let rng = SplitMix64 {
+            state: self.rng.state,
+            edition: self.rng.edition,
+        };
+        let draw = rng.uniform();
         self.rng = draw.rng;
         draw.value
     }
@@ -40,7 +49,11 @@ impl Generator {
         ensures { (result ≡ gaussian_of self.old.rng)
             × (self.new.rng ≡ after_gaussian self.old.rng) }
     {
-        let draw = self.rng.gaussian();
+        let rng = SplitMix64 {
+            state: self.rng.state,
+            edition: self.rng.edition,
+        };
+        let draw = rng.gaussian();
         self.rng = draw.rng;
         draw.value
     }

@@ -1,5 +1,6 @@
 // Whether an index has each row once, and the changes set in its order.
 #![tactic(auto)]
+
 ghost use Rattle.std.specs.Prelude.{◌≡◌, length};
 ghost use Rattle.arranged.specs.Arranged.{Within, Tells, EachOnce};
 ghost use Rattle.marking.specs.Moved.{changes_at};

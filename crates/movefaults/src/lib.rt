@@ -1,5 +1,6 @@
 // The tests of a list of words that moved.
 #![tactic(auto)]
+
 ghost use Rattle.std.specs.Prelude.{◌≡◌};
 ghost use Rattle.movefaults.specs.Answers.{length_fault, range_fault, moved_fault};
 

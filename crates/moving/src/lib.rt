@@ -1,5 +1,6 @@
 // Which word moved: the list of every row's change, by magnitude falling, built anew or brought up to date.
 #![tactic(auto)]
+
 ghost use Rattle.std.specs.Prelude.{◌≡◌, ◌≤◌, ◌<◌, length};
 ghost use Rattle.marking.specs.Moved.{Working, Moved};
 ghost use Rattle.movefaults.specs.Changes.{Taken};

@@ -1,5 +1,6 @@
 // The weights that are not 0, packed: the numbers of their columns and they themselves at the front of two lists.
 #![tactic(auto)]
+
 ghost use Rattle.std.specs.Prelude.{◌≡◌, ◌≤◌, length};
 ghost use Rattle.packing.specs.Packed.{Packed};
 

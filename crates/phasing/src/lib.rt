@@ -1,5 +1,6 @@
 // One phase of the walk on the free columns: they are chosen, the phase is made on them, and they are put back.
 #![tactic(auto)]
+
 ghost use Rattle.std.specs.Prelude.{◌≤◌, length};
 ghost use Rattle.seq.specs.Indices.{Below};
 ghost use Rattle.chosen.specs.Entries.{entry_of};

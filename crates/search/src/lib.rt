@@ -1,5 +1,6 @@
 // Local search: single coordinates are flipped while that lowers the largest magnitude of A x.
 #![tactic(auto)]
+
 ghost use Rattle.std.specs.Prelude.{◌≡◌, ◌<◌, length};
 ghost use Rattle.flipping.specs.Search.{searched};
 ghost use Rattle.chosen.specs.Entries.{entry_of};

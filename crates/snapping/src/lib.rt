@@ -1,5 +1,6 @@
 // One coordinate freezes: it snaps to 1 or -1, leaves the free ones, and its axis and the worst row are blocked.
 #![tactic(auto)]
+
 ghost use Rattle.std.specs.Prelude.{◌≡◌, ◌<◌, length};
 ghost use Rattle.blocking.specs.Freeze.{axis};
 ghost use Rattle.chosen.specs.Entries.{entry_of};

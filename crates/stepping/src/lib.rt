@@ -1,5 +1,6 @@
 // One step of the walk: a direction is drawn, moved along, and what reaches the limit freezes.
 #![tactic(auto)]
+
 ghost use Rattle.std.specs.Prelude.{◌≡◌, ◌≤◌, length};
 ghost use Rattle.seq.specs.Sums.{plus_zero};
 ghost use Rattle.walked.specs.Walk.{step_of};

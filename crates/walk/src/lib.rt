@@ -1,5 +1,6 @@
 // A phase of the walk on its columns: rows are blocked, then steps are made until one ends the phase.
 #![tactic(auto)]
+
 ghost use Rattle.std.specs.Prelude.{◌≡◌, length};
 ghost use Rattle.seq.specs.Sums.{plus_zero};
 ghost use Rattle.begin.specs.Begin.{begun};

@@ -1,5 +1,6 @@
 // What one phase of the walk is: its records; the definitions are in specs/, the laws in proofs/.
 #![tactic(auto)]
+
 use draw::SplitMix64;
 
 // Where a walk stands: how many vectors the basis has, how many coordinates froze in this phase, and the generator.

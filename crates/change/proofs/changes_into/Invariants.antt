@@ -12,7 +12,8 @@ use Rattle.change.proofs.changes_into.Given as goal
 abbrev pub invariant-loop-j : goal.invariant-loop-j
 invariant-loop-j l =
     (l.j ≤ length l.before) × (length l.block ≡ length l.initial.block)
-    × (l.block ≡ tabulate (λ i. change_to (read_of l.matrix l.bits l.n) l.before l.after (l.from + i) l.j) (length l.initial.block)) × Differs l.before l.after l.j
+    × (l.block ≡ tabulate (λ i. change_to (read_of l.matrix l.bits l.n) l.before l.after (l.from + i) l.j) (length l.initial.block))
+    × Differs l.before l.after l.j
 
 abbrev pub decreases-loop-j : goal.decreases-loop-j
 decreases-loop-j l = length l.before - l.j

@@ -1,5 +1,4 @@
 -- `chosen::next_live` meets its contract: every place that the loop has left behind adds nothing.
-use Prim.Native.Nat.{◌-◌}
 use Rattle.chosen.proofs.Skipping.{passed_none, passed-more}
 use Rattle.chosen.proofs.next_live.Goals as goal
 

@@ -7,7 +7,9 @@ use Rattle.columns.specs.Kernels.{plus_columns}
 use Rattle.columns.proofs.add_two.Given as goal
 
 abbrev pub invariant-loop-i : goal.invariant-loop-i
-invariant-loop-i l = Filled (plus_columns (scaled_at l.first l.s) l.g (scaled_at l.second l.t) l.h l.initial.acc) l.initial.acc l.i l.acc × (l.i ≤ length l.first)
+invariant-loop-i l =
+    Filled (plus_columns (scaled_at l.first l.s) l.g (scaled_at l.second l.t) l.h l.initial.acc) l.initial.acc l.i l.acc
+    × (l.i ≤ length l.first)
 
 abbrev pub decreases-loop-i : goal.decreases-loop-i
 decreases-loop-i l = length l.first - l.i

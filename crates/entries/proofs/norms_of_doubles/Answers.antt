@@ -1,6 +1,5 @@
 -- `entries::norms_of_doubles` meets its contract: after p turns each row has the sum over the first p columns, and a turn adds one term to each.
 use mathlib.Core.List.{[]}
-use Prim.Native.Nat.{◌-◌}
 use mathlib.Core.Path.{◌≡◌, refl, ap, ◌∙◌}
 use native.Mathlib.Nat.{add-sub_cancel_left}
 use native.Mathlib.Omega.{arith}

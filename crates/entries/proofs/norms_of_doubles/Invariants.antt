@@ -10,7 +10,8 @@ use Rattle.entries.proofs.norms_of_doubles.Given as goal
 
 abbrev pub invariant-loop-p : goal.invariant-loop-p
 invariant-loop-p l =
-    (l.p ≤ length l.cols) × (length l.acc ≡ length l.initial.acc) × (l.acc ≡ row_norms plus_zero (entry_of l.matrix [] l.n l.cols l.scale) l.p (length l.initial.acc))
+    (l.p ≤ length l.cols) × (length l.acc ≡ length l.initial.acc)
+    × (l.acc ≡ row_norms plus_zero (entry_of l.matrix [] l.n l.cols l.scale) l.p (length l.initial.acc))
 
 abbrev pub decreases-loop-p : goal.decreases-loop-p
 decreases-loop-p l = length l.cols - l.p

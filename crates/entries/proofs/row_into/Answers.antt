@@ -1,5 +1,4 @@
 -- `entries::row_into` meets its contract: the loop fills the row, an entry a column.
-use Prim.Native.Nat.{◌-◌}
 use native.Mathlib.Omega.{arith}
 use Rattle.seq.proofs.Filling.{start, turn, whole}
 use Rattle.entries.proofs.row_into.Goals as goal

@@ -1,6 +1,6 @@
 -- `entries::times_into` meets its contract: after each turn every row has the sum over the columns before p, and those between that add nothing are passed
 -- over.
-use Prim.Native.Nat.{◌+◌, ◌-◌, ◌≤◌}
+use Prim.Native.Nat.{◌+◌, ◌≤◌}
 use mathlib.Core.Path.{◌≡◌, refl, sym, ◌∙◌}
 use native.Mathlib.Omega.{arith}
 use lib.ListN.{length}

@@ -10,7 +10,8 @@ use Rattle.entries.proofs.times_into.Given as goal
 
 abbrev pub invariant-loop-p : goal.invariant-loop-p
 invariant-loop-p l =
-    (l.p ≤ length l.cols) × (length l.acc ≡ length l.initial.acc) × (l.acc ≡ times plus_zero (entry_of l.matrix l.bits l.n l.cols l.scale) l.p (length l.initial.acc) l.g)
+    (l.p ≤ length l.cols) × (length l.acc ≡ length l.initial.acc)
+    × (l.acc ≡ times plus_zero (entry_of l.matrix l.bits l.n l.cols l.scale) l.p (length l.initial.acc) l.g)
 
 abbrev pub decreases-loop-p : goal.decreases-loop-p
 decreases-loop-p l = length l.cols - l.p

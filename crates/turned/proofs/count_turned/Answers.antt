@@ -4,7 +4,7 @@ use Rattle.seq.specs.Keep.{count}
 use Rattle.turned.specs.Turned.{turns}
 use Rattle.turned.proofs.Counting.{counts, skips, differ}
 use mathlib.Core.Bool.{Bool}
-use Prim.Native.Nat.{ℕ, ◌+◌, ◌-◌}
+use Prim.Native.Nat.{ℕ, ◌+◌}
 use mathlib.Core.Path.{◌≡◌, refl, ap, ◌∙◌}
 use native.Mathlib.Omega.{arith}
 use lib.ListN.{length}

@@ -3,7 +3,6 @@ use Rattle.seq.specs.Sums.{sum_from}
 use Rattle.limits.specs.Reading.{read_of}
 use Rattle.limits.proofs.Spare.{whole_lies}
 use Rattle.turned.proofs.MarginMore.{margins-more}
-use Prim.Native.Nat.{◌-◌}
 use mathlib.Core.Path.{◌≡◌, refl, ◌∙◌}
 use native.Mathlib.Omega.{arith}
 use lib.ListN.{length}

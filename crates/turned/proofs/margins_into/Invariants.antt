@@ -9,7 +9,8 @@ use Rattle.turned.proofs.margins_into.Given as goal
 
 abbrev pub invariant-loop-j : goal.invariant-loop-j
 invariant-loop-j l =
-    (l.j ≤ length l.weights) × (length l.block ≡ length l.initial.block) × (l.block ≡ tabulate (λ i. margin_at (read_of l.matrix l.bits l.n) l.j l.weights (l.from + i)) (length l.initial.block))
+    (l.j ≤ length l.weights) × (length l.block ≡ length l.initial.block)
+    × (l.block ≡ tabulate (λ i. margin_at (read_of l.matrix l.bits l.n) l.j l.weights (l.from + i)) (length l.initial.block))
 
 abbrev pub decreases-loop-j : goal.decreases-loop-j
 decreases-loop-j l = length l.weights - l.j

@@ -7,7 +7,7 @@ use Rattle.limits.specs.Reading.{read_of}
 use Rattle.turned.specs.Turned.{margin_at, turns_at, turned_count}
 use Rattle.rows.proofs.Stretches.{some-rows, on_a_byte, front_back, front_long}
 use Rattle.turned.proofs.Counting.{count_short, count_block}
-use Prim.Native.Nat.{ℕ, ◌+◌, ◌-◌, ◌≤◌}
+use Prim.Native.Nat.{ℕ, ◌+◌, ◌≤◌}
 use mathlib.Core.Path.{◌≡◌, refl, sym, ap, ◌∙◌}
 use native.Mathlib.Omega.{arith}
 use lib.Ieee.{Float}
@@ -82,7 +82,14 @@ overflow_add-turned c =
     let l = c.loop-from in
     let long = front_long k.result l.was x.new.block (omega arith) x.auto.block in
     let n = c.requires.0.0.short in
-    omega (arith, long, n, l.invariant.0, count_short _ _ l.turned l.invariant.4, count_short _ _ c.count_turned-turned.result c.count_turned-turned.ensures)
+    omega (
+      arith,
+      long,
+      n,
+      l.invariant.0,
+      count_short _ _ l.turned l.invariant.4,
+      count_short _ _ c.count_turned-turned.result c.count_turned-turned.ensures,
+    )
 
 pub loop-from-smaller : goal.loop-from-smaller
 loop-from-smaller c =

@@ -10,7 +10,8 @@ use Rattle.twovotes.proofs.add_two_signed.Given as goal
 
 abbrev pub invariant-loop-i : goal.invariant-loop-i
 invariant-loop-i l = (l.i ≤ l.n) × (length l.acc ≡ length l.initial.acc)
-    × ((w : List Float) → l.n ≤ length w → Filled (signed_two l.first l.t l.second l.u w) w l.initial.i l.initial.acc → Filled (signed_two l.first l.t l.second l.u w) w l.i l.acc)
+    × ((w : List Float) → l.n ≤ length w → Filled (signed_two l.first l.t l.second l.u w) w l.initial.i l.initial.acc
+    → Filled (signed_two l.first l.t l.second l.u w) w l.i l.acc)
 
 abbrev pub decreases-loop-i : goal.decreases-loop-i
 decreases-loop-i l = l.n - l.i

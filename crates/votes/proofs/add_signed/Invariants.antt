@@ -10,7 +10,8 @@ use Rattle.votes.proofs.add_signed.Given as goal
 
 abbrev pub invariant-loop-i : goal.invariant-loop-i
 invariant-loop-i l = (l.i ≤ l.n) × (length l.acc ≡ length l.initial.acc)
-    × ((w : List Float) → l.n ≤ length w → Filled (signed_at l.column l.t w) w l.initial.i l.initial.acc → Filled (signed_at l.column l.t w) w l.i l.acc)
+    × ((w : List Float) → l.n ≤ length w → Filled (signed_at l.column l.t w) w l.initial.i l.initial.acc
+    → Filled (signed_at l.column l.t w) w l.i l.acc)
 
 abbrev pub decreases-loop-i : goal.decreases-loop-i
 decreases-loop-i l = l.n - l.i
