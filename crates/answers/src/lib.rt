@@ -1,5 +1,6 @@
 // What a job answers: Answer, the answer at the end of a path, and a refusal.
 #![tactic(auto)]
+
 ghost use Rattle.std.specs.Prelude.{◌≡◌, ◌≤◌};
 ghost use Rattle.answers.specs.Answers.{refusal};
 ghost use Rattle.answers.specs.Thinning.{answer_for};

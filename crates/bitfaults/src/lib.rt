@@ -1,5 +1,6 @@
 // The tests of a job on bits, and what it answers.
 #![tactic(auto)]
+
 ghost use Rattle.std.specs.Prelude.{◌≡◌};
 ghost use Rattle.bitfaults.specs.Refusals.{bytes_fault, votes_fault};
 

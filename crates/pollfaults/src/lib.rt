@@ -1,5 +1,6 @@
 // The tests of a colouring, a change and turned words on bits, and what they answer.
 #![tactic(auto)]
+
 ghost use Rattle.std.specs.Prelude.{◌≡◌};
 ghost use Rattle.pollfaults.specs.Polls.{bits_coloring_fault, poll_fault, bits_turned_fault};
 

@@ -1,5 +1,6 @@
 // The thinning: sparsify, sparsify_within, and thin, which takes either's rule in a job.
 #![tactic(auto)]
+
 ghost use Rattle.std.specs.Prelude.{◌≡◌, length, true};
 ghost use Rattle.seq.specs.Sums.{plus_zero};
 ghost use Rattle.draw.specs.SplitMix.{seeded};

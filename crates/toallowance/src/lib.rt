@@ -1,5 +1,6 @@
 // The stages followed within an allowance, and as far as a cap asks.
 #![tactic(auto)]
+
 ghost use Rattle.std.specs.Prelude.{◌≡◌, true, length};
 ghost use Rattle.limits.specs.Limits.{bounded};
 ghost use Rattle.limits.specs.Reading.{read_of};

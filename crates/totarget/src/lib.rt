@@ -1,5 +1,6 @@
 // The stages followed to a target.
 #![tactic(auto)]
+
 ghost use Rattle.std.specs.Prelude.{◌≡◌, ◌<◌, true};
 ghost use Rattle.limits.specs.Limits.{bounded};
 ghost use Rattle.limits.specs.Reading.{read_of};

@@ -1,5 +1,6 @@
 // One more pass, tried: its weights are taken unless they measure above the allowance and the cap is met already.
 #![tactic(auto)]
+
 ghost use Rattle.std.specs.Prelude.{◌≡◌, ◌≤◌, ◌&&◌, length};
 ghost use Rattle.limits.specs.Reading.{read_of};
 ghost use Rattle.weights.specs.Weights.{nonzeros};

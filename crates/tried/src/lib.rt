@@ -1,5 +1,6 @@
 // One more pass, tried: the record of what it answers; the definitions are in specs/, the laws in proofs/.
 #![tactic(auto)]
+
 use colored::Counted;
 
 // How a try of one more pass ended: the tally with it, what it measured, whether its weights were taken, and whether another is to be

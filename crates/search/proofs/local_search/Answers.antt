@@ -1,7 +1,6 @@
 -- `search::local_search` meets its contract: what the remaining sweeps give stays the same from sweep to sweep, until none remains or one flips nothing.
-use Rattle.flipping.proofs.Flips.{search_begun, search_over}
 use Rattle.chosen.specs.Entries.{entry_of}
-use Rattle.flipping.proofs.Flips.{search_turn, search_stop}
+use Rattle.flipping.proofs.Flips.{search_begun, search_turn, search_stop, search_over}
 use borrow.Author.Tests.{not-true, not-false}
 use mathlib.Core.Path.{refl, sym, ◌∙◌}
 use native.Mathlib.Omega.{arith}
