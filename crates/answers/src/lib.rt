@@ -11,7 +11,7 @@ use stages::Path;
 // and the sweeps made in all passes, in one that was tried and discarded too; then the entries and the change of each stage from 0 to the
 // one returned, and zeros after it.
 #[repr(C)]
-#[derive(Drop)]
+#[derive(Clone, Copy)]
 pub struct Answer {
     pub number: u64,
     pub stage: u64,

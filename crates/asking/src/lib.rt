@@ -1,5 +1,6 @@
 // The job of a sheet: read from its bytes, thinned, and answered in a buffer.
 #![tactic(auto)]
+
 ghost use Rattle.std.specs.Prelude.{◌≡◌, ◌≤◌, length};
 ghost use Rattle.draw.specs.SplitMix.{seeded};
 ghost use Rattle.faults.specs.Faults.{edition_fault};

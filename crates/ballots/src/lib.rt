@@ -1,6 +1,7 @@
 // Thinning from a matrix of votes, one bit a margin: the bits are read where they stand, and every answer is that of thinning from the
 // doubles that they stand for.
 #![tactic(auto)]
+
 ghost use Rattle.draw.specs.SplitMix.{seeded};
 ghost use Rattle.rules.specs.declared.Rule.TheVariants.{Target, Within};
 ghost use Rattle.bitfaults.specs.Ballots.{BitsThinned};

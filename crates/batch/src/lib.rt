@@ -1,5 +1,6 @@
 // Several jobs on one matrix, of doubles or of bits, in one call: the matrix is tested once, and each item has what thin gives on its own.
 #![tactic(auto)]
+
 ghost use Rattle.std.specs.Prelude.{◌≡◌, true, length};
 ghost use Rattle.ieee.specs.Constants.{one};
 ghost use Rattle.limits.specs.Limits.{bounded};

@@ -1,5 +1,6 @@
 // What several jobs on one matrix answer: Answers, and that of a call that is refused.
 #![tactic(auto)]
+
 ghost use Rattle.std.specs.Prelude.{◌≡◌};
 ghost use Rattle.seq.specs.Lists.{repeated};
 ghost use Rattle.answers.specs.Answers.{refusal};

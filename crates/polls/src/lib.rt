@@ -1,6 +1,7 @@
 // Colouring, change and turned words from a matrix of votes, one bit a margin: the bits are read where they stand, and every answer is that
 // from the doubles that they stand for.
 #![tactic(auto)]
+
 ghost use Rattle.std.specs.Prelude.{◌≡◌};
 ghost use Rattle.pollfaults.specs.Polls.{BitsColored, bits_change, bits_turned};
 

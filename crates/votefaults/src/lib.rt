@@ -1,5 +1,6 @@
 // The tests of a call on labels and confidences, and what it answers.
 #![tactic(auto)]
+
 ghost use Rattle.std.specs.Prelude.{◌≡◌};
 ghost use Rattle.seq.specs.Choice.{pick};
 ghost use Rattle.limits.specs.Limits.{too_large};

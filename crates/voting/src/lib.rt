@@ -1,5 +1,6 @@
 // Thinning from labels and confidences, the kept columns packed. No margin is formed: the sign of a row reaches no answer.
 #![tactic(auto)]
+
 ghost use Rattle.draw.specs.SplitMix.{seeded};
 ghost use Rattle.votefaults.specs.Votes.{VotesThinned};
 

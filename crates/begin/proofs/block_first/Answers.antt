@@ -3,7 +3,6 @@ use Rattle.blocking.proofs.Scratch.{rest_room}
 use Rattle.blocking.proofs.Freezing.{chosen_own}
 use Rattle.chosen.specs.Entries.{entry_of}
 use Rattle.begin.proofs.Starting.{blocking-start, blocking-turn, blocking_end}
-use Prim.Native.Nat.{◌-◌}
 use mathlib.Core.Path.{refl, ◌∙◌}
 use native.Mathlib.Omega.{arith}
 use lib.ListN.{length}

@@ -1,5 +1,4 @@
 -- `callfaults::bits_whole_fault` meets its contract: each way out is one of the laws of Whole.
-use borrow.Author.Rules.{rules}
 use Prim.Native.Nat.{◌*◌}
 use mathlib.Core.Path.{refl, sym, ap, ◌∙◌}
 use mathlib.Core.Bool.{Bool}

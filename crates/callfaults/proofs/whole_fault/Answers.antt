@@ -1,5 +1,4 @@
 -- `callfaults::whole_fault` meets its contract: each way out is one of the laws of Whole.
-use borrow.Author.Rules.{rules}
 use Prim.Native.Nat.{◌*◌}
 use mathlib.Core.Path.{sym, ap, ◌∙◌}
 use mathlib.Core.Bool.{Bool}

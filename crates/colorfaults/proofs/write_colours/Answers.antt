@@ -1,6 +1,5 @@
 -- `colorfaults::write_colours` meets its contract: a loop that fills, of which each turn stores the colour of its coordinate.
 use Rattle.seq.proofs.Filling.{start, turn, whole}
-use Prim.Native.Nat.{◌-◌}
 use native.Mathlib.Omega.{arith}
 use Rattle.colorfaults.proofs.write_colours.Goals.{else-x-j, then-x-j}
 use Rattle.colorfaults.proofs.write_colours.Goals as goal

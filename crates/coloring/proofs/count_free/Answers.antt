@@ -1,7 +1,6 @@
 -- `coloring::count_free` meets its contract: after i turns the count is that of the marks below i.
 use borrow.Author.Tests.{eq-eqb, ne_eqb}
 use Rattle.seq.specs.Keep.{count}
-use Prim.Native.Nat.{◌-◌}
 use mathlib.Core.Path.{◌≡◌, refl}
 use native.Mathlib.Omega.{arith}
 use native.Mathlib.Numerals.{add-one}

@@ -3,7 +3,6 @@ use Rattle.ieee.proofs.Magnitudes.{minus_one_lem}
 use Rattle.seq.proofs.Filling.{skip, start, turn, still, whole}
 use borrow.Author.Tests.{ne_eqb, eq-eqb}
 use Rattle.direction.specs.Step.{moved}
-use Prim.Native.Nat.{◌-◌}
 use mathlib.Core.Path.{◌∙◌}
 use native.Mathlib.Omega.{arith}
 use lib.Ieee.{nan}

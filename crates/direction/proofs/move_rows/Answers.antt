@@ -1,7 +1,6 @@
 -- `direction::move_rows` meets its contract: after i turns the first i rows are moved, and the second half is as it was.
 use Rattle.direction.proofs.Turning.{along-turn, along-whole}
 use Rattle.seq.proofs.Filling.{start}
-use Prim.Native.Nat.{◌-◌}
 use native.Mathlib.Omega.{arith}
 use Rattle.direction.proofs.move_rows.Goals as goal
 

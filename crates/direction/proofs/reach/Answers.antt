@@ -2,7 +2,6 @@
 use Rattle.direction.proofs.Turning.{reach_moves, reach_still, reach_frozen}
 use lib.Ieee.{div, of_bits}
 use Rattle.direction.specs.Step.{reach_to}
-use Prim.Native.Nat.{◌-◌}
 use mathlib.Core.Path.{◌≡◌, refl, ◌∙◌}
 use Rattle.direction.proofs.reach.Goals.{then-free-p-eq1+then-g-p, then-free-p-eq1+else-g-p, else-free-p-eq1}
 use native.Mathlib.Omega.{arith}

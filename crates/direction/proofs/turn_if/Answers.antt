@@ -1,7 +1,6 @@
 -- `direction::turn_if` meets its contract: after i turns the first i places are turned; a turn stores, or the place is right already.
 use Rattle.seq.proofs.Filling.{start, turn, still, whole, skip}
 use Rattle.direction.specs.Direction.{turned}
-use Prim.Native.Nat.{◌-◌}
 use native.Mathlib.Omega.{arith}
 use lib.Ieee.{nan}
 use Rattle.direction.proofs.turn_if.Goals.{else-t, then-t}

@@ -1,7 +1,6 @@
 -- `drawing::draw_into` meets its contract: after i turns the first i places hold the first i draws, and the generator has made them.
 use Rattle.seq.proofs.Filling.{start, turn, whole}
 use Rattle.direction.specs.Direction.{draw_at, after_draws}
-use Prim.Native.Nat.{◌-◌}
 use mathlib.Core.Path.{◌≡◌, refl, ◌∙◌}
 use native.Mathlib.Omega.{arith}
 use native.Mathlib.Numerals.{add-one}

@@ -3,7 +3,6 @@
 use borrow.Author.Tests.{ne_eqb, eq-eqb}
 use Rattle.seq.proofs.Filling.{start, turn, whole, skip}
 use Rattle.direction.specs.Direction.{zeroed}
-use Prim.Native.Nat.{◌-◌}
 use native.Mathlib.Omega.{arith}
 use lib.Ieee.{nan}
 use Rattle.drawing.proofs.zero_frozen.Goals.{else-free-p-ne1, then-free-p-ne1}

@@ -1,6 +1,4 @@
 -- `faults::weight_fault` meets its contract: each way out is one of the laws of Refusing.
-use lib.Ieee.{lt}
-use Rattle.seq.specs.Sums.{plus_zero}
 use Rattle.faults.proofs.Refusing.{weight_refused, empty_refused, endless_refused, weights_fine}
 use mathlib.Core.Path.{sym, ◌∙◌}
 use Rattle.faults.proofs.weight_fault.Goals as goal

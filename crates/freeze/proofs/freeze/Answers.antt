@@ -5,7 +5,6 @@ use Rattle.blocking.specs.Held.{held}
 use Rattle.blocking.proofs.Freezing.{freezes_near, freezes_far, freezes_not, freezing_start, freezing_one, freezing_none}
 use mathlib.Core.Path.{◌≡◌, ap, ◌∙◌}
 use Rattle.chosen.specs.Entries.{entry_of}
-use Prim.Native.Nat.{◌-◌}
 use native.Mathlib.Omega.{arith}
 use lib.ListN.{length}
 use Rattle.freeze.proofs.freeze.Goals as goal

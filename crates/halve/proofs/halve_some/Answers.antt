@@ -1,5 +1,4 @@
 -- `halve::halve_some` meets its contract: the columns that the colouring reads are those of the definition.
-use borrow.Author.Rules.{rules}
 use mathlib.Core.Path.{◌∙◌}
 use native.Mathlib.Omega.{arith}
 use Rattle.halved.proofs.Columns.{column_inside, halved_by_lem, directions_fit, sweeps_fit}
