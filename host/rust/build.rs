@@ -1,5 +1,5 @@
 //! Finds the archive and links it. KNOBTHISTLE_ARCHIVE is the archive's path, or the folder that it is in; without it the archive is the
-//! one of a release, beside this crate, or the one that `rt staticlib knobthistle` or host/archive writes in this repository.
+//! one of a release, beside this crate, or the one that host/archive writes in this repository.
 
 use std::env;
 use std::fs;
@@ -20,7 +20,7 @@ fn main() {
     if system != "linux" || (machine != "x86_64" && machine != "aarch64") {
         fail(&format!("the archive is for Linux on x86-64 or Arm, not for {system} on {machine}"));
     }
-    let archive = archive(&machine);
+    let archive = archive();
     println!("cargo:rerun-if-changed={}", archive.display());
     // A copy, so that an archive of any file name is found by the one that the linker asks for.
     let room = PathBuf::from(env::var_os("OUT_DIR").expect("cargo names a folder for what is built"));
@@ -31,7 +31,7 @@ fn main() {
     println!("cargo:rustc-link-lib=static=knobthistle");
 }
 
-fn archive(machine: &str) -> PathBuf {
+fn archive() -> PathBuf {
     if let Some(named) = env::var_os("KNOBTHISTLE_ARCHIVE") {
         let named = PathBuf::from(named);
         let archive = if named.is_dir() { named.join(NAME) } else { named };
@@ -40,12 +40,7 @@ fn archive(machine: &str) -> PathBuf {
         }
         return archive;
     }
-    // `rt staticlib` writes for x86-64 alone; host/archive writes for the machine that it runs on.
-    let mut places = vec!["../lib", "../../target/lib"];
-    if machine == "x86_64" {
-        places.insert(1, "../../target/staticlib");
-    }
-    let found = places.iter().map(|place| here().join(place).join(NAME)).find(|archive| archive.is_file());
+    let found = ["../lib", "../../target/lib"].iter().map(|place| here().join(place).join(NAME)).find(|archive| archive.is_file());
     found.unwrap_or_else(|| {
         fail("there is no libknobthistle.a: run host/archive in the repository, or name an archive in KNOBTHISTLE_ARCHIVE")
     })

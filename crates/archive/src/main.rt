@@ -2,6 +2,7 @@
 // hexadecimal. The file stdout holds what the original answers for them, but for the last, whose allowance is infinite and which is
 // refused. Entries and weights are made by the generator from the job's seed.
 #![tactic(auto)]
+
 ghost use Rattle.std.specs.Prelude.{◌≤◌, ◌<◌, length};
 
 use answers::Answer;
@@ -9,6 +10,8 @@ use draw::SplitMix64;
 use report::{print_answer, print_path, print_totals, print_weights, put};
 use rules::Cap;
 use sparsification::{sparsify, sparsify_within};
+use std::io;
+use std::io::Write;
 
 const COLUMNS: [usize; 37] = [
     2, 3, 4, 5, 8, 8, 9, 12, 16, 24, 32, 32, 40, 60, 60, 60, 7, 20, 2, 6, 8, 8, 16, 16, 24, 24, 32,
@@ -81,12 +84,12 @@ const CAPS: [usize; 37] = [
 ];
 
 // An answer, its totals, its path and its weights.
-fn show(a: Answer, output: &[f64]) {
-    print_answer(a);
-    print_totals(a);
-    print_path(a);
-    print_weights(output);
-    put(b"\n");
+fn show<W: Write>(out: &mut W, a: &Answer, output: &[f64]) -> io::Result<()> {
+    print_answer(out, a)?;
+    print_totals(out, a)?;
+    print_path(out, a)?;
+    print_weights(out, output)?;
+    put(out, b"\n")
 }
 
 // An entry by its kind, from a uniform: 0 one or minus one, 1 in [-1, 1], 2 mostly 0, 3 always 1, and else a multiple of 1/4.
@@ -141,60 +144,69 @@ fn weight_of(kind: u64, u: f64) -> f64 {
 
 fn fill_entries(a: &mut [f64], kind: u64, rng: SplitMix64) -> SplitMix64 {
     let mut r = rng;
-    let mut i = 0usize;
-    while i < a.len() {
+    for x in a.iter_mut() {
         let d = r.uniform();
-        a[i] = entry_of(kind, d.value);
-        let next = d.rng;
-        r = next;
-        i += 1;
+        *x = entry_of(kind, d.value);
+        r = d.rng;
     }
     r
 }
 
 fn fill_weights(a: &mut [f64], kind: u64, rng: SplitMix64) {
     let mut r = rng;
-    let mut i = 0usize;
-    while i < a.len() {
+    for x in a.iter_mut() {
         let d = r.uniform();
-        a[i] = weight_of(kind, d.value);
-        let next = d.rng;
-        r = next;
-        i += 1;
+        *x = weight_of(kind, d.value);
+        r = d.rng;
     }
 }
 
 // One job of the archive.
-fn replay(k: usize)
+fn replay<W: Write>(out: &mut W, k: usize) -> io::Result<()>
     requires { k < 37 }
 {
     let m = COLUMNS[k];
     let n = ROWS[k];
     if m > 64 {
-        return;
+        return Ok(());
     }
     if n > 128 {
-        return;
+        return Ok(());
     }
     let size = m * n;
     let mut matrix = [0.0f64; 8192];
     let mut weights = [0.0f64; 64];
-    make(&mut matrix[..size], &mut weights[..m], m, n, k);
+    make(out, &mut matrix[..size], &mut weights[..m], m, n, k)
 }
 
 // Makes the entries and the weights of a job, and answers it.
-fn make(matrix: &mut [f64], weights: &mut [f64], m: usize, n: usize, k: usize)
+fn make<W: Write>(
+    out: &mut W,
+    matrix: &mut [f64],
+    weights: &mut [f64],
+    m: usize,
+    n: usize,
+    k: usize,
+) -> io::Result<()>
     requires { (k < 37) × (m ≤ 64) }
 {
     let seed = k as u64;
     let rng = fill_entries(&mut matrix[..], ENTRIES[k], SplitMix64::new(seed, 1));
     fill_weights(&mut weights[..], WEIGHTS[k], rng);
     let mut output = [0.0f64; 64];
-    answer(&matrix[..], &weights[..], m, n, k, &mut output[..m]);
+    answer(out, &matrix[..], &weights[..], m, n, k, &mut output[..m])
 }
 
 // Thins by a target or within an allowance, and shows what comes of it.
-fn answer(matrix: &[f64], weights: &[f64], m: usize, n: usize, k: usize, output: &mut [f64])
+fn answer<W: Write>(
+    out: &mut W,
+    matrix: &[f64],
+    weights: &[f64],
+    m: usize,
+    n: usize,
+    k: usize,
+    output: &mut [f64],
+) -> io::Result<()>
     requires { k < 37 }
 {
     let seed = k as u64;
@@ -214,7 +226,7 @@ fn answer(matrix: &[f64], weights: &[f64], m: usize, n: usize, k: usize, output:
             &mut numbers[..],
             &mut indices[..],
         );
-        show(a, &output[..]);
+        show(out, &a, &output[..])
     } else {
         let a = sparsify_within(
             matrix,
@@ -229,7 +241,7 @@ fn answer(matrix: &[f64], weights: &[f64], m: usize, n: usize, k: usize, output:
             &mut numbers[..],
             &mut indices[..],
         );
-        show(a, &output[..]);
+        show(out, &a, &output[..])
     }
 }
 
@@ -247,10 +259,10 @@ fn cap_of(cap: usize) -> Cap {
     }
 }
 
-fn main() {
-    let mut k = 0usize;
-    while k < 37 {
-        replay(k);
-        k += 1;
+fn main(rt: HostRuntime) -> io::Result<()> {
+    let mut out = rt.stdout();
+    for k in 0..37usize {
+        replay(&mut out, k)?;
     }
+    Ok(())
 }

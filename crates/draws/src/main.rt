@@ -2,7 +2,10 @@
 // the Gaussian, and the state that it leaves, in hexadecimal; all of edition 1, and then all of edition 2. The file stdout holds what the
 // rule of docs/DRAW.md gives for them.
 #![tactic(auto)]
+
 use draw::SplitMix64;
+use std::io;
+use std::io::Write;
 
 const STATES: [u64; 64] = [
     0x0000_0000_0000_0000,
@@ -71,12 +74,9 @@ const STATES: [u64; 64] = [
     0xDF4F_B09E_ACA3_13F5,
 ];
 
-// A number, and the byte that ends it.
-fn print(n: u64, end: u8) {
-    io::print_hex(1, n, 16);
-    let mut last = [0u8; 1];
-    last[0] = end;
-    io::write_all(1, &last[..]);
+// A number, and what ends it.
+fn print<W: Write>(out: &mut W, n: u64, end: char) -> io::Result<()> {
+    write!(out, "{n:016x}{end}")
 }
 
 // The bits of a double, of which no draw is a NaN; a NaN would print as 0.
@@ -85,43 +85,43 @@ fn bits(x: f64) -> u64 {
 }
 
 // One line.
-fn replay(state: u64, edition: u32) {
+fn replay<W: Write>(out: &mut W, state: u64, edition: u32) -> io::Result<()> {
     let first = SplitMix64::new(state, edition).next_u64();
     let second = first.rng.next_u64();
-    print_words(state, first.value, second.value);
-    print_uniforms(edition, first.value, second.value);
-    print_draw(state, edition);
+    print_words(out, state, first.value, second.value)?;
+    print_uniforms(out, edition, first.value, second.value)?;
+    print_draw(out, state, edition)
 }
 
-fn print_words(state: u64, first: u64, second: u64) {
-    print(state, b'\t');
-    print(first, b'\t');
-    print(second, b'\t');
+fn print_words<W: Write>(out: &mut W, state: u64, first: u64, second: u64) -> io::Result<()> {
+    print(out, state, '\t')?;
+    print(out, first, '\t')?;
+    print(out, second, '\t')
 }
 
-fn print_uniforms(edition: u32, first: u64, second: u64) {
-    print(bits(draw::uniform_of(edition, first)), b'\t');
-    print(bits(draw::uniform_of(edition, second)), b'\t');
-    print(bits(draw::ln_of(edition, first)), b'\t');
-    print(bits(draw::cos_of(edition, second)), b'\t');
+fn print_uniforms<W: Write>(out: &mut W, edition: u32, first: u64, second: u64) -> io::Result<()> {
+    print(out, bits(draw::uniform_of(edition, first)), '\t')?;
+    print(out, bits(draw::uniform_of(edition, second)), '\t')?;
+    print(out, bits(draw::ln_of(edition, first)), '\t')?;
+    print(out, bits(draw::cos_of(edition, second)), '\t')
 }
 
-fn print_draw(state: u64, edition: u32) {
+fn print_draw<W: Write>(out: &mut W, state: u64, edition: u32) -> io::Result<()> {
     let d = SplitMix64::new(state, edition).gaussian();
-    print(bits(d.value), b'\t');
-    print(d.rng.state, b'\n');
+    print(out, bits(d.value), '\t')?;
+    print(out, d.rng.state, '\n')
 }
 
 // All lines of an edition.
-fn replay_all(edition: u32) {
-    let mut i = 0usize;
-    while i < 64 {
-        replay(STATES[i], edition);
-        i += 1;
+fn replay_all<W: Write>(out: &mut W, edition: u32) -> io::Result<()> {
+    for state in &STATES {
+        replay(out, *state, edition)?;
     }
+    Ok(())
 }
 
-fn main() {
-    replay_all(1);
-    replay_all(2);
+fn main(rt: HostRuntime) -> io::Result<()> {
+    let mut out = rt.stdout();
+    replay_all(&mut out, 1)?;
+    replay_all(&mut out, 2)
 }

@@ -1,5 +1,6 @@
-// The C interface: nothing but exported calls. include/knobthistle.h declares them.
+// The calls of the C interface, which include/knobthistle.h declares. knobthistle_c has them in the archive; a Rattle crate calls them here.
 #![tactic(auto)]
+
 mod bits;
 
 ghost use Rattle.std.specs.Prelude.{◌≡◌};
@@ -27,6 +28,10 @@ ghost use Rattle.words.specs.Words.{moved_answer};
 
 use answers::Answer;
 use batch::thin_all;
+pub use bits::{
+    knob_discrepancy_coloring_bits, knob_max_margin_change_bits, knob_sparsify_bits,
+    knob_sparsify_within_bits, knob_thin_all_bits, knob_thin_bits, knob_turned_words_bits,
+};
 use colorfaults::Colored;
 use discrepancy::discrepancy_coloring;
 use faults::named_rule;

@@ -1,69 +1,84 @@
-// What the programs print: text, the bits of a double, weights, an answer and its path.
+// What the programs print: text, counts, the bits of a double, weights, an answer and its path.
 #![tactic(auto)]
+
+ghost use Rattle.std.specs.Prelude.{[], ◌∷◌, OnOk, decimal};
+ghost use Rattle.std.specs.Io.KnownBytes.{Appends};
+
 use answers::Answer;
+use std::io;
+use std::io::Write;
 
 // A text.
-pub fn put(text: &[u8]) {
-    io::write_all(1, text);
+pub fn put<W: Write>(out: &mut W, text: &[u8]) -> io::Result<()>
+    ensures { OnOk result (Appends (W.contents out.old) (W.contents out.new) text.now) }
+{
+    out.write_all(text)
 }
 
 // The end of a field.
-pub fn tab() {
-    put(b"\t");
+pub fn tab<W: Write>(out: &mut W) -> io::Result<()>
+    ensures { OnOk result (Appends (W.contents out.old) (W.contents out.new) (9 ∷ [])) }
+{
+    put(out, b"\t")
+}
+
+// A count.
+pub fn print_count<W: Write>(out: &mut W, n: u64) -> io::Result<()>
+    ensures { OnOk result (Appends (W.contents out.old) (W.contents out.new) (decimal n)) }
+{
+    write!(out, "{n}")
+}
+
+// Bits, as 16 hexadecimal digits.
+pub fn print_hex<W: Write>(out: &mut W, bits: u64) -> io::Result<()> {
+    write!(out, "{bits:016x}")
 }
 
 // The bits of a double; a NaN prints as 0.
-pub fn print_bits(x: f64) {
-    if x == x {
-        io::print_hex(1, f64::to_bits(x), 16);
-    } else {
-        io::print_hex(1, 0, 16);
-    }
+pub fn print_bits<W: Write>(out: &mut W, x: f64) -> io::Result<()> {
+    let bits = if x == x { f64::to_bits(x) } else { 0 };
+    print_hex(out, bits)
 }
 
 // Number, stage, nonzero entries and change of an answer, parted by tabs.
-pub fn print_answer(a: Answer) {
-    io::print_decimal(1, a.number);
-    tab();
-    io::print_decimal(1, a.stage);
-    tab();
-    io::print_decimal(1, a.nonzeros);
-    tab();
-    print_bits(a.change);
+pub fn print_answer<W: Write>(out: &mut W, a: &Answer) -> io::Result<()> {
+    print_count(out, a.number)?;
+    tab(out)?;
+    print_count(out, a.stage)?;
+    tab(out)?;
+    print_count(out, a.nonzeros)?;
+    tab(out)?;
+    print_bits(out, a.change)
 }
 
 // The directions and the sweeps of an answer, a tab before each.
-pub fn print_totals(a: Answer) {
-    tab();
-    io::print_decimal(1, a.directions);
-    tab();
-    io::print_decimal(1, a.sweeps);
+pub fn print_totals<W: Write>(out: &mut W, a: &Answer) -> io::Result<()> {
+    tab(out)?;
+    print_count(out, a.directions)?;
+    tab(out)?;
+    print_count(out, a.sweeps)
 }
 
 // Weights, a tab before each.
-pub fn print_weights(w: &[f64]) {
-    let mut j = 0usize;
-    while j < w.len() {
-        tab();
-        print_bits(w[j]);
-        j += 1;
+pub fn print_weights<W: Write>(out: &mut W, w: &[f64]) -> io::Result<()> {
+    for x in w {
+        tab(out)?;
+        print_bits(out, *x)?;
     }
+    Ok(())
 }
 
 // Counts, a tab before each.
-pub fn print_counts(k: &[u64]) {
-    let mut i = 0usize;
-    while i < k.len() {
-        tab();
-        io::print_decimal(1, k[i]);
-        i += 1;
+pub fn print_counts<W: Write>(out: &mut W, k: &[u64]) -> io::Result<()> {
+    for n in k {
+        tab(out)?;
+        print_count(out, *n)?;
     }
+    Ok(())
 }
 
 // The path of an answer: the nonzero entries of its stages and then their changes, a tab before each.
-pub fn print_path(a: Answer) {
-    let nonzeros = a.path_nonzeros;
-    let change = a.path_change;
-    print_counts(&nonzeros[..]);
-    print_weights(&change[..]);
+pub fn print_path<W: Write>(out: &mut W, a: &Answer) -> io::Result<()> {
+    print_counts(out, &a.path_nonzeros[..])?;
+    print_weights(out, &a.path_change[..])
 }

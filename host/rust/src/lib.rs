@@ -57,8 +57,8 @@
 //! # Building
 //!
 //! In a release the archive stands beside this crate. In the repository `host/archive` proves the library and writes the archive where
-//! this crate looks for it, as `rt staticlib knobthistle` does on x86-64. An archive in another place is named by the environment variable
-//! `KNOBTHISTLE_ARCHIVE`: its path or its folder, from the root or from this crate's folder. It must be one for the machine, x86-64 or Arm.
+//! this crate looks for it. An archive in another place is named by the environment variable `KNOBTHISTLE_ARCHIVE`: its path or its
+//! folder, from the root or from this crate's folder. It must be one for the machine, x86-64 or Arm.
 
 #![warn(missing_docs)]
 
