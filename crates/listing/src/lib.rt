@@ -1,5 +1,6 @@
 // The lines of the words that moved, written in a buffer.
 #![tactic(auto)]
+
 ghost use Rattle.std.specs.Prelude.{◌≡◌, ◌+◌, ◌≤◌, length};
 ghost use Rattle.seq.specs.Sums.{plus_zero};
 ghost use Rattle.fields.specs.Steps.{WroteOn};

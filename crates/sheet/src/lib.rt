@@ -1,5 +1,6 @@
 // The sheet: from the bytes of a job to the bytes of its answer.
 #![tactic(auto)]
+
 ghost use Rattle.std.specs.Prelude.{◌≤◌, length};
 ghost use Rattle.answering.specs.Steps.{Wrote};
 ghost use Rattle.sheet.specs.Answer.{sheet_answer, Answered};

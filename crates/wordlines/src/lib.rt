@@ -1,5 +1,6 @@
 // The lines of the words that moved, written from the list.
 #![tactic(auto)]
+
 ghost use Rattle.std.specs.Prelude.{◌≡◌, ◌+◌, ◌*◌, ◌≤◌, length};
 ghost use Rattle.fields.specs.Steps.{WroteOn};
 ghost use Rattle.wordlines.specs.Lines.{word_line, word_lines};

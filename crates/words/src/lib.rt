@@ -1,5 +1,6 @@
 // Which word moved, of a sheet: from the bytes of a job to the bytes of its answer with a line for each word behind it.
 #![tactic(auto)]
+
 ghost use Rattle.std.specs.Prelude.{◌≡◌, ◌≤◌, length};
 ghost use Rattle.draw.specs.SplitMix.{seeded};
 ghost use Rattle.faults.specs.Faults.{edition_fault};
