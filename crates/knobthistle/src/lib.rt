@@ -26,17 +26,17 @@ ghost use Rattle.readback.specs.ReadingBack.{ReadBack};
 ghost use Rattle.movefaults.specs.Answers.{Listed};
 ghost use Rattle.words.specs.Words.{moved_answer};
 
-use answers::Answer;
+pub use answers::Answer;
 use batch::thin_all;
 pub use bits::{
     knob_discrepancy_coloring_bits, knob_max_margin_change_bits, knob_sparsify_bits,
     knob_sparsify_within_bits, knob_thin_all_bits, knob_thin_bits, knob_turned_words_bits,
 };
-use colorfaults::Colored;
+pub use colorfaults::Colored;
 use discrepancy::discrepancy_coloring;
 use faults::named_rule;
 use interface::{cap_of, next_gaussian, next_uniform, version};
-use items::Answers;
+pub use items::Answers;
 use margins::{max_margin_change, turned_words};
 use moving::{moved, moved_again};
 use readback::read_sheet;

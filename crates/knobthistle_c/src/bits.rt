@@ -1,17 +1,7 @@
 // The calls on a matrix of votes, one bit a margin.
-ghost use Rattle.draw.specs.SplitMix.{seeded};
-ghost use Rattle.faults.specs.Faults.{rule_named};
-ghost use Rattle.rules.specs.declared.Rule.TheVariants.{Target, Within};
-ghost use Rattle.bitfaults.specs.Ballots.{BitsThinned};
-ghost use Rattle.items.specs.Items.{listed};
-ghost use Rattle.items.specs.All.{BitsThinnedAll};
-ghost use Rattle.margins.specs.Answers.{ChangeGiven, TurnedGiven};
-ghost use Rattle.pollfaults.specs.Polls.{BitsColored, bits_change, bits_turned};
-ghost use Rattle.interface.specs.Caps.{cap_of};
+ghost use Rattle.knobthistle.specs.Calls;
 
-use answers::Answer;
-use colorfaults::Colored;
-use items::Answers;
+use knobthistle::{Answer, Answers, Colored};
 
 // The largest change of a margin, written to `change`; the number.
 #[unsafe(no_mangle)]
@@ -23,7 +13,7 @@ pub extern "C" fn knob_max_margin_change_bits(
     after: &[f64],
     change: &mut f64,
 ) -> u64
-    ensures { ChangeGiven (bits_change bits.now m n before.now after.now) result change.new }
+    ensures { Calls.ChangeGiven (Calls.bits_change bits.now m n before.now after.now) result change.new }
 {
     knobthistle::knob_max_margin_change_bits(bits, m, n, before, after, change)
 }
@@ -39,7 +29,7 @@ pub extern "C" fn knob_turned_words_bits(
     thresholds: &[f64],
     count: &mut u64,
 ) -> u64
-    ensures { TurnedGiven (bits_turned bits.now m n before.now after.now thresholds.now) result
+    ensures { Calls.TurnedGiven (Calls.bits_turned bits.now m n before.now after.now thresholds.now) result
         count.new }
 {
     knobthistle::knob_turned_words_bits(bits, m, n, before, after, thresholds, count)
@@ -56,7 +46,7 @@ pub extern "C" fn knob_discrepancy_coloring_bits(
     numbers: &mut [f64],
     indices: &mut [u32],
 ) -> Colored
-    ensures { BitsColored bits.now m n seed output.old numbers.old
+    ensures { Calls.BitsColored bits.now m n seed output.old numbers.old
         indices.old result output.new numbers.new indices.new }
 {
     knobthistle::knob_discrepancy_coloring_bits(bits, m, n, seed, output, numbers, indices)
@@ -76,7 +66,7 @@ pub extern "C" fn knob_sparsify_bits(
     numbers: &mut [f64],
     indices: &mut [u32],
 ) -> Answer
-    ensures { BitsThinned (Target target) (seeded seed edition) bits.now m n weights.now
+    ensures { Calls.BitsThinned (Calls.Target target) (Calls.seeded seed edition) bits.now m n weights.now
         output.old numbers.old indices.old result output.new numbers.new
         indices.new }
 {
@@ -101,7 +91,7 @@ pub extern "C" fn knob_sparsify_within_bits(
     numbers: &mut [f64],
     indices: &mut [u32],
 ) -> Answer
-    ensures { BitsThinned (Within allowance (cap_of capped cap)) (seeded seed edition) bits.now m n
+    ensures { Calls.BitsThinned (Calls.Within allowance (Calls.cap_of capped cap)) (Calls.seeded seed edition) bits.now m n
         weights.now output.old numbers.old indices.old result output.new
         numbers.new indices.new }
 {
@@ -126,7 +116,7 @@ pub extern "C" fn knob_thin_bits(
     numbers: &mut [f64],
     indices: &mut [u32],
 ) -> Answer
-    ensures { BitsThinned (rule_named rule allowance limit) (seeded seed edition) bits.now m n weights.now
+    ensures { Calls.BitsThinned (Calls.rule_named rule allowance limit) (Calls.seeded seed edition) bits.now m n weights.now
         output.old numbers.old indices.old result output.new numbers.new
         indices.new }
 {
@@ -152,7 +142,7 @@ pub extern "C" fn knob_thin_all_bits(
     numbers: &mut [f64],
     indices: &mut [u32],
 ) -> Answers
-    ensures { BitsThinnedAll bits.now m n items (listed weights.now seeds.now
+    ensures { Calls.BitsThinnedAll bits.now m n items (Calls.listed weights.now seeds.now
         editions.now rules.now allowances.now limits.now) output.old
         numbers.old indices.old result output.new numbers.new indices.new }
 {

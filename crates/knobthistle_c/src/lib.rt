@@ -1,39 +1,17 @@
-// The C archive: the calls of knobthistle under their own names, each with the clauses that it has there. include/knobthistle.h declares them.
+// The archive: the calls of knobthistle under their own names, each with the clauses that it has there. include/knobthistle.h declares them.
 #![tactic(auto)]
 
 mod bits;
 
 ghost use Rattle.std.specs.Prelude.{◌≡◌};
-ghost use Rattle.root.specs.Root.{sqrt_of};
-ghost use Rattle.draw.specs.SplitMix.{seeded};
-ghost use Rattle.draw.specs.Gaussian.{ln_of_draw, cos_of_draw};
-ghost use Rattle.colorfaults.specs.Discrepancy.{DiscrepancyColored};
-ghost use Rattle.interface.specs.Version.{version_number};
-ghost use Rattle.interface.specs.Caps.{cap_of};
-ghost use Rattle.interface.specs.Draws.{UniformDrawn, GaussianDrawn};
-ghost use Rattle.answers.specs.Answers.{Thinned};
-ghost use Rattle.items.specs.Items.{listed};
-ghost use Rattle.items.specs.All.{ThinnedAll};
-ghost use Rattle.faults.specs.Faults.{rule_named};
-ghost use Rattle.votefaults.specs.Votes.{VotesThinned};
-ghost use Rattle.rules.specs.declared.Rule.TheVariants.{Target, Within};
-ghost use Rattle.margins.specs.Answers.{change_answer, turned_answer, ChangeGiven, TurnedGiven};
-ghost use Rattle.sheet.specs.Answer.{Answered};
-ghost use Rattle.gathering.specs.Lines.{no_lines, after};
-ghost use Rattle.keeping.specs.Saved.{salvaged, Laid};
-ghost use Rattle.writing.specs.Writing.{WroteFor};
-ghost use Rattle.readback.specs.ReadingBack.{ReadBack};
-ghost use Rattle.movefaults.specs.Answers.{Listed};
-ghost use Rattle.words.specs.Words.{moved_answer};
+ghost use Rattle.knobthistle.specs.Calls;
 
-use answers::Answer;
-use colorfaults::Colored;
-use items::Answers;
+use knobthistle::{Answer, Answers, Colored};
 
 // The version of the library: that of the file VERSION.
 #[unsafe(no_mangle)]
 pub extern "C" fn knob_version() -> u64
-    ensures { result ≡ version_number 0 1 0 }
+    ensures { result ≡ Calls.version_number 0 1 0 }
 {
     knobthistle::knob_version()
 }
@@ -41,7 +19,7 @@ pub extern "C" fn knob_version() -> u64
 // The next uniform draw of edition 1.
 #[unsafe(no_mangle)]
 pub extern "C" fn knob_uniform(state: &mut u64) -> f64
-    ensures { UniformDrawn state.old 1 result state.new }
+    ensures { Calls.UniformDrawn state.old 1 result state.new }
 {
     knobthistle::knob_uniform(state)
 }
@@ -49,7 +27,7 @@ pub extern "C" fn knob_uniform(state: &mut u64) -> f64
 // The next uniform draw of edition 2.
 #[unsafe(no_mangle)]
 pub extern "C" fn knob_uniform_2(state: &mut u64) -> f64
-    ensures { UniformDrawn state.old 2 result state.new }
+    ensures { Calls.UniformDrawn state.old 2 result state.new }
 {
     knobthistle::knob_uniform_2(state)
 }
@@ -57,7 +35,7 @@ pub extern "C" fn knob_uniform_2(state: &mut u64) -> f64
 // The next Gaussian draw of edition 1.
 #[unsafe(no_mangle)]
 pub extern "C" fn knob_gaussian(state: &mut u64) -> f64
-    ensures { GaussianDrawn state.old 1 result state.new }
+    ensures { Calls.GaussianDrawn state.old 1 result state.new }
 {
     knobthistle::knob_gaussian(state)
 }
@@ -65,7 +43,7 @@ pub extern "C" fn knob_gaussian(state: &mut u64) -> f64
 // The next Gaussian draw of edition 2.
 #[unsafe(no_mangle)]
 pub extern "C" fn knob_gaussian_2(state: &mut u64) -> f64
-    ensures { GaussianDrawn state.old 2 result state.new }
+    ensures { Calls.GaussianDrawn state.old 2 result state.new }
 {
     knobthistle::knob_gaussian_2(state)
 }
@@ -73,7 +51,7 @@ pub extern "C" fn knob_gaussian_2(state: &mut u64) -> f64
 // IEEE 754's square root.
 #[unsafe(no_mangle)]
 pub extern "C" fn knob_sqrt(x: f64) -> f64
-    ensures { result ≡ sqrt_of x }
+    ensures { result ≡ Calls.sqrt_of x }
 {
     knobthistle::knob_sqrt(x)
 }
@@ -81,7 +59,7 @@ pub extern "C" fn knob_sqrt(x: f64) -> f64
 // The logarithm of the uniform of this output of the generator, by edition 1.
 #[unsafe(no_mangle)]
 pub extern "C" fn knob_log_draw(word: u64) -> f64
-    ensures { result ≡ ln_of_draw 1 word }
+    ensures { result ≡ Calls.ln_of_draw 1 word }
 {
     knobthistle::knob_log_draw(word)
 }
@@ -89,7 +67,7 @@ pub extern "C" fn knob_log_draw(word: u64) -> f64
 // The same by edition 2.
 #[unsafe(no_mangle)]
 pub extern "C" fn knob_log_draw_2(word: u64) -> f64
-    ensures { result ≡ ln_of_draw 2 word }
+    ensures { result ≡ Calls.ln_of_draw 2 word }
 {
     knobthistle::knob_log_draw_2(word)
 }
@@ -97,7 +75,7 @@ pub extern "C" fn knob_log_draw_2(word: u64) -> f64
 // The cosine of TAU times the uniform of this output of the generator, by edition 1.
 #[unsafe(no_mangle)]
 pub extern "C" fn knob_cos_draw(word: u64) -> f64
-    ensures { result ≡ cos_of_draw 1 word }
+    ensures { result ≡ Calls.cos_of_draw 1 word }
 {
     knobthistle::knob_cos_draw(word)
 }
@@ -105,7 +83,7 @@ pub extern "C" fn knob_cos_draw(word: u64) -> f64
 // The same by edition 2.
 #[unsafe(no_mangle)]
 pub extern "C" fn knob_cos_draw_2(word: u64) -> f64
-    ensures { result ≡ cos_of_draw 2 word }
+    ensures { result ≡ Calls.cos_of_draw 2 word }
 {
     knobthistle::knob_cos_draw_2(word)
 }
@@ -120,7 +98,7 @@ pub extern "C" fn knob_max_margin_change(
     after: &[f64],
     change: &mut f64,
 ) -> u64
-    ensures { ChangeGiven (change_answer matrix.now m n before.now after.now) result
+    ensures { Calls.ChangeGiven (Calls.change_answer matrix.now m n before.now after.now) result
         change.new }
 {
     knobthistle::knob_max_margin_change(matrix, m, n, before, after, change)
@@ -137,8 +115,8 @@ pub extern "C" fn knob_turned_words(
     thresholds: &[f64],
     count: &mut u64,
 ) -> u64
-    ensures { TurnedGiven
-        (turned_answer matrix.now m n before.now after.now thresholds.now) result
+    ensures { Calls.TurnedGiven
+        (Calls.turned_answer matrix.now m n before.now after.now thresholds.now) result
         count.new }
 {
     knobthistle::knob_turned_words(matrix, m, n, before, after, thresholds, count)
@@ -155,7 +133,7 @@ pub extern "C" fn knob_discrepancy_coloring(
     numbers: &mut [f64],
     indices: &mut [u32],
 ) -> Colored
-    ensures { DiscrepancyColored matrix.now m n seed output.old numbers.old
+    ensures { Calls.DiscrepancyColored matrix.now m n seed output.old numbers.old
         indices.old result output.new numbers.new indices.new }
 {
     knobthistle::knob_discrepancy_coloring(matrix, m, n, seed, output, numbers, indices)
@@ -175,7 +153,7 @@ pub extern "C" fn knob_sparsify(
     numbers: &mut [f64],
     indices: &mut [u32],
 ) -> Answer
-    ensures { Thinned (Target target) (seeded seed edition) matrix.now m n weights.now output.old
+    ensures { Calls.Thinned (Calls.Target target) (Calls.seeded seed edition) matrix.now m n weights.now output.old
         numbers.old indices.old result output.new numbers.new indices.new }
 {
     knobthistle::knob_sparsify(
@@ -199,7 +177,7 @@ pub extern "C" fn knob_sparsify_within(
     numbers: &mut [f64],
     indices: &mut [u32],
 ) -> Answer
-    ensures { Thinned (Within allowance (cap_of capped cap)) (seeded seed edition) matrix.now m n weights.now
+    ensures { Calls.Thinned (Calls.Within allowance (Calls.cap_of capped cap)) (Calls.seeded seed edition) matrix.now m n weights.now
         output.old numbers.old indices.old result output.new numbers.new
         indices.new }
 {
@@ -225,7 +203,7 @@ pub extern "C" fn knob_thin_all(
     numbers: &mut [f64],
     indices: &mut [u32],
 ) -> Answers
-    ensures { ThinnedAll matrix.now m n items (listed weights.now seeds.now editions.now
+    ensures { Calls.ThinnedAll matrix.now m n items (Calls.listed weights.now seeds.now editions.now
         rules.now allowances.now limits.now) output.old numbers.old
         indices.old result output.new numbers.new indices.new }
 {
@@ -253,7 +231,7 @@ pub extern "C" fn knob_thin_votes(
     numbers: &mut [f64],
     indices: &mut [u32],
 ) -> Answer
-    ensures { VotesThinned (rule_named rule allowance limit) (seeded seed edition) confidences.now
+    ensures { Calls.VotesThinned (Calls.rule_named rule allowance limit) (Calls.seeded seed edition) confidences.now
         labels.now m n weights.now columns.old kept.old numbers.old
         indices.old result columns.new kept.new numbers.new indices.new }
 {
@@ -278,7 +256,7 @@ pub extern "C" fn knob_thin_votes(
 // The answer of a sheet in a lent buffer: its length, or 0 where it does not fit, which leaves the buffer as it was.
 #[unsafe(no_mangle)]
 pub extern "C" fn knob_thin_sheet(text: &[u8], answer: &mut [u8]) -> usize
-    ensures { Answered text.now answer.old result answer.new }
+    ensures { Calls.Answered text.now answer.old result answer.new }
 {
     knobthistle::knob_thin_sheet(text, answer)
 }
@@ -298,7 +276,7 @@ pub extern "C" fn knob_write_sheet(
     text: &mut [u8],
     length: &mut usize,
 ) -> u64
-    ensures { WroteFor matrix.now m n weights.now seed edition rule allowance limit text.old
+    ensures { Calls.WroteFor matrix.now m n weights.now seed edition rule allowance limit text.old
         (record { number = result; length = length.new }) text.new }
 {
     knobthistle::knob_write_sheet(
@@ -314,7 +292,7 @@ pub extern "C" fn knob_read_sheet(
     weights: &mut [u64],
     first: &mut [u64],
 ) -> u64
-    ensures { ReadBack text.now matrix.old weights.old first.old result matrix.new
+    ensures { Calls.ReadBack text.now matrix.old weights.old first.old result matrix.new
         weights.new first.new }
 {
     knobthistle::knob_read_sheet(text, matrix, weights, first)
@@ -323,7 +301,7 @@ pub extern "C" fn knob_read_sheet(
 // What is good of a damaged sheet, in a lent buffer: its length, or 0 where it does not fit, which leaves the buffer as it was.
 #[unsafe(no_mangle)]
 pub extern "C" fn knob_salvage(text: &[u8], answer: &mut [u8]) -> usize
-    ensures { Laid (salvaged (after no_lines text.now)) answer.old result answer.new }
+    ensures { Calls.Laid (Calls.salvaged (Calls.after Calls.no_lines text.now)) answer.old result answer.new }
 {
     knobthistle::knob_salvage(text, answer)
 }
@@ -339,7 +317,7 @@ pub extern "C" fn knob_moved(
     rows: &mut [u32],
     changes: &mut [f64],
 ) -> u64
-    ensures { Listed
+    ensures { Calls.Listed
         matrix.now m n before.now after.now rows.old changes.old
         result rows.new changes.new }
 {
@@ -357,7 +335,7 @@ pub extern "C" fn knob_moved_again(
     rows: &mut [u32],
     changes: &mut [f64],
 ) -> u64
-    ensures { Listed
+    ensures { Calls.Listed
         matrix.now m n before.now after.now rows.old changes.old
         result rows.new changes.new }
 {
@@ -368,7 +346,7 @@ pub extern "C" fn knob_moved_again(
 // buffer as it was.
 #[unsafe(no_mangle)]
 pub extern "C" fn knob_moved_sheet(text: &[u8], answer: &mut [u8]) -> usize
-    ensures { Laid (moved_answer text.now) answer.old result answer.new }
+    ensures { Calls.Laid (Calls.moved_answer text.now) answer.old result answer.new }
 {
     knobthistle::knob_moved_sheet(text, answer)
 }
