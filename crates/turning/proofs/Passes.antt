@@ -26,6 +26,7 @@ use Rattle.halved.specs.Halve.{scaled_columns, Halved, halved_by, halved_once}
 use Rattle.passed.specs.Halving.{halved_twice, pass_of}
 use Rattle.turning.proofs.Signed.{Facing, facing, mul_facing}
 use Rattle.turning.proofs.Colourings.{coloring_same}
+use Rattle.turning.proofs.Turned.{in_pass}
 
 -- ---- the sum of magnitudes
 
@@ -90,12 +91,8 @@ minus-start = record { zero = minus_zero_lem; divides = normalized_same }
 -- sums from such a zero and from +0.0, on two matrices that are alike once their turned rows are negated
 module _ {z : Float} (start : Start z) (turns : ℕ → Bool) (matrix matrix' : ℕ → ℕ → Float)
     (same : (j i : ℕ) → Facing (turns i) (matrix j i) (matrix' j i)) (n : ℕ) where
-  -- the rows that are turned in a pass
-  abbrev in_pass : ℕ → Bool
-  in_pass i = pick (ltb i n) (turns i) false
-
   scaled_same : (w : List Float) (largest : Float) (rest : List ℕ) (p i : ℕ)
-      → Facing (in_pass i) (scaled_columns matrix n w largest rest p i) (scaled_columns matrix' n w largest rest p i)
+      → Facing (in_pass n turns i) (scaled_columns matrix n w largest rest p i) (scaled_columns matrix' n w largest rest p i)
   scaled_same w largest rest p i = go (ltb i n)
     where
       go : (t : Bool) → Facing (pick t (turns i) false)
@@ -109,7 +106,7 @@ module _ {z : Float} (start : Start z) (turns : ℕ → Bool) (matrix matrix' : 
   once_same largest rest h =
       let r : List ℕ = remaining h.w rest in
       ap (λ (c : Colored). pick (eqb (length r) 0) h (halved_by h r c))
-      (coloring_same z start.zero in_pass (scaled_columns matrix n h.w largest r) (scaled_columns matrix' n h.w largest r) (scaled_same h.w largest r)
+      (coloring_same z start.zero (in_pass n turns) (scaled_columns matrix n h.w largest r) (scaled_columns matrix' n h.w largest r) (scaled_same h.w largest r)
       (length r) (suc n) h.rng)
 
   twice_same : (h : Halved) → halved_twice z matrix n h ≡ halved_twice plus_zero matrix' n h
