@@ -1,2 +1,0 @@
--- Laws of a buffer that is filled.
-pub mod Filled

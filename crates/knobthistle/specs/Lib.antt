@@ -1,2 +1,0 @@
--- The words of the calls.
-pub mod Calls

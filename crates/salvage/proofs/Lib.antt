@@ -1,3 +1,0 @@
--- Laws of the program's loops.
-pub mod Reading
-pub mod Whole
