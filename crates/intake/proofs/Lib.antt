@@ -1,0 +1,2 @@
+-- Laws of a buffer that is filled.
+pub mod Filled

@@ -1,0 +1,10 @@
+-- `knobthistle::knob_max_margin_change` meets its contract: the two fields of the answer.
+use Rattle.margins.specs.declared.Change.{Change}
+use mathlib.Core.Path.{ap}
+use Rattle.knobthistle.proofs.knob_max_margin_change.Goals as goal
+
+pub returns : goal.returns
+returns c = record {
+  number = ap (λ (a : Change). a.number) c.max_margin_change-a.ensures;
+  change = ap (λ (a : Change). a.change) c.max_margin_change-a.ensures;
+}

@@ -1,0 +1,2 @@
+-- The words of the calls.
+pub mod Calls

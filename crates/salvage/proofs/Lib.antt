@@ -1,0 +1,3 @@
+-- Laws of the program's loops.
+pub mod Reading
+pub mod Whole
