@@ -17,7 +17,7 @@ use draw::SplitMix64;
 use faults::{item_fault, named_rule};
 use items::{Answers, no_answers};
 use rules::Rule;
-use seq::{clear, clear_words};
+use seq::fill;
 use sparsification::thin_sound;
 
 // Thins one item, of a call whose sizes and matrix have been tested.
@@ -135,8 +135,8 @@ fn thin_tested(
     if number != 0 {
         return no_answers(number);
     }
-    clear(&mut numbers[..]);
-    clear_words(&mut indices[..]);
+    fill(&mut numbers[..], 0.0);
+    fill(&mut indices[..], 0);
     thin_items(
         matrix, bits, m, n, items, weights, seeds, editions, rules, allowances, limits, output,
         numbers, indices,

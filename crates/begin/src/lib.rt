@@ -10,7 +10,7 @@ ghost use Rattle.begin.specs.Beginning.{BlockedFirst, Begun};
 use blocking::block_row;
 use entries::norms_into;
 use leading::first_rows;
-use seq::clear_words;
+use seq::fill;
 
 // Blocks some rows, in order; how many vectors the basis then has. v is room for a row.
 fn block_first(
@@ -82,7 +82,7 @@ pub fn begin(
     norms_into(&mut numbers[from..to], matrix, bits, n, cols, scale);
     let all = &numbers[..];
     let k = first_rows(&mut first[..quarter], &all[0..rows], &all[from..to]);
-    clear_words(&mut blocked[..]);
+    fill(&mut blocked[..], 0);
     block_first(
         numbers,
         blocked,

@@ -12,7 +12,7 @@ ghost use Rattle.change.specs.Unmoved.{Unmoved, Differs};
 
 use ieee::{abs, larger};
 use rows::{add_rows, add_two_rows, block_length};
-use seq::clear;
+use seq::fill;
 
 // The next place from `from` on at which the weights differ, or where they end.
 fn next_moved(before: &[f64], after: &[f64], from: usize) -> usize
@@ -43,7 +43,7 @@ pub fn changes_into(
     ensures { block.new ≡ tabulate (λ i. change_to (read_of matrix.now bits.now n) before.now
         after.now (from + i) (length before.now)) (length block.old) }
 {
-    clear(&mut block[..]);
+    fill(&mut block[..], 0.0);
     let mut j = next_moved(before, after, 0);
     while j < before.len() {
         let s = before[j] - after[j];

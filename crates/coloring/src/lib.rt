@@ -15,7 +15,7 @@ use draw::SplitMix64;
 use entries::times_into;
 use phasing::next_phase;
 use search::local_search;
-use seq::{clear, fill_words};
+use seq::fill;
 
 // How many directions were drawn, and the generator after them.
 #[derive(Drop)]
@@ -115,9 +115,9 @@ fn walk_anew(
         result.rng result.directions }
 {
     let rows = blocked.len();
-    clear(&mut x[..]);
-    clear(&mut numbers[..rows]);
-    fill_words(&mut free[..], 1);
+    fill(&mut x[..], 0.0);
+    fill(&mut numbers[..rows], 0.0);
+    fill(&mut free[..], 1);
     walk_to_end(numbers, blocked, x, free, matrix, bits, n, cols, scale, rng)
 }
 

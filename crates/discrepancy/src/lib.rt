@@ -13,7 +13,7 @@ use colored::Counted;
 use colorfaults::{Colored, coloring_fault, write_colours};
 use coloring::coloring;
 use draw::SplitMix64;
-use seq::{clear, clear_words, count_up, fill};
+use seq::{count_up, fill};
 
 // Colours all m columns into x. The matrix is read as it is: every scale is 1.0.
 pub fn color_all(
@@ -82,8 +82,8 @@ pub fn discrepancy_coloring(
         &mut indices[..],
     );
     write_colours(output, &x[..m]);
-    clear(numbers);
-    clear_words(indices);
+    fill(numbers, 0.0);
+    fill(indices, 0);
     Colored {
         number: 0,
         directions: c.directions as u64,

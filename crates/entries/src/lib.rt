@@ -14,7 +14,7 @@ use columns::add_squares;
 use linear::dot;
 use paired::add_two_of;
 use reading::add_column_of;
-use seq::{clear, fill};
+use seq::fill;
 
 // Row i, an entry for each column.
 pub fn row_into(
@@ -98,7 +98,7 @@ pub fn times_into(
         (entry_of matrix.now bits.now n cols.now scale.now) (length cols.now)
         (length acc.old) g.now }
 {
-    clear(&mut acc[..]);
+    fill(&mut acc[..], 0.0);
     let mut p = next_live(scale, g, 0);
     while p < cols.len() {
         let q = next_live(scale, g, p + 1);
@@ -119,7 +119,7 @@ fn norms_of_doubles(acc: &mut [f64], matrix: &[f64], n: usize, cols: &[u32], sca
         (entry_of matrix.now [] n cols.now scale.now) (length cols.now)
         (length acc.old) }
 {
-    clear(&mut acc[..]);
+    fill(&mut acc[..], 0.0);
     let mut p = 0usize;
     while p < cols.len() {
         let a = (cols[p] as usize) * n;

@@ -5,14 +5,14 @@ ghost use Rattle.std.specs.Prelude.{◌≡◌, length};
 ghost use Rattle.arranged.specs.Arranged.{Within, Tells, EachOnce};
 ghost use Rattle.marking.specs.Moved.{changes_at};
 
-use seq::clear_words;
+use seq::fill;
 
 // Whether rows, n of them, have each of 0, .., n - 1 once. marks are as many.
 pub fn is_each_once(rows: &[u32], marks: &mut [u32]) -> bool
     requires { length marks.old ≡ length rows.now }
     ensures { Tells result (EachOnce (length rows.now) rows.now) }
 {
-    clear_words(&mut marks[..]);
+    fill(&mut marks[..], 0);
     let mut i = 0usize;
     while i < rows.len() {
         let x = rows[i] as usize;

@@ -6,7 +6,7 @@ ghost use Rattle.packing.specs.Packed.{Packed};
 
 use places::choose;
 use ranking::support_into;
-use seq::{clear, clear_words};
+use seq::fill;
 
 // Packs the weights w. Both lists are as long as w.
 pub fn pack(columns: &mut [u32], kept: &mut [f64], w: &[f64])
@@ -14,7 +14,7 @@ pub fn pack(columns: &mut [u32], kept: &mut [f64], w: &[f64])
     ensures { Packed w.now columns.new kept.new }
 {
     let s = support_into(&mut columns[..], w);
-    clear_words(&mut columns[s..]);
+    fill(&mut columns[s..], 0);
     choose(&mut kept[..s], w, &columns[..s]);
-    clear(&mut kept[s..]);
+    fill(&mut kept[s..], 0.0);
 }

@@ -10,7 +10,7 @@ ghost use Rattle.phased.specs.Phasing.{RoomAtPlaces, RoomForAll, PhasedAt, OnePh
 
 use draw::SplitMix64;
 use places::{choose, choose_words, free_places, put_back, put_back_words, round_free};
-use seq::fill_words;
+use seq::fill;
 use walk::phase;
 use walked::Phased;
 
@@ -108,7 +108,7 @@ pub fn next_phase(
     );
     if p.at.frozen == 0 {
         round_free(x, &free[..]);
-        fill_words(free, 0);
+        fill(free, 0);
     }
     p
 }

@@ -10,7 +10,7 @@ use colorfaults::{Colored, write_colours};
 use discrepancy::color_all;
 use margins::{Change, Turned};
 use pollfaults::{bits_coloring_fault, bits_turned_fault, poll_fault};
-use seq::{clear, clear_words};
+use seq::fill;
 use spare::spare_clear;
 use turned::turned_of;
 
@@ -49,8 +49,8 @@ pub fn discrepancy_coloring_bits(
         &mut indices[..],
     );
     write_colours(output, &x[..m]);
-    clear(numbers);
-    clear_words(indices);
+    fill(numbers, 0.0);
+    fill(indices, 0);
     Colored {
         number: 0,
         directions: c.directions as u64,

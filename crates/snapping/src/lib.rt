@@ -10,14 +10,14 @@ ghost use Rattle.blocking.specs.Held.{Roomy, FreezesOne};
 use basis::insert;
 use blocking::block_worst;
 use ieee::signum;
-use seq::clear;
+use seq::fill;
 
 // The vector with 1.0 at p.
 fn axis_into(v: &mut [f64], p: usize)
     requires { p < length v.old }
     ensures { v.new ≡ axis (length v.old) p }
 {
-    clear(&mut v[..]);
+    fill(&mut v[..], 0.0);
     v[p] = 1.0;
 }
 

@@ -20,7 +20,7 @@ use answers::{Answer, answer_for, refused};
 use draw::SplitMix64;
 use faults::job_fault;
 use rules::{Cap, Rule};
-use seq::{clear, clear_words, copy};
+use seq::{copy, fill};
 use stages::Path;
 use toallowance::to_allowance;
 use totarget::to_target;
@@ -92,8 +92,8 @@ fn thin_on(
         source,
         rule,
     );
-    clear(numbers);
-    clear_words(indices);
+    fill(numbers, 0.0);
+    fill(indices, 0);
     answer_for(path)
 }
 

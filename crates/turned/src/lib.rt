@@ -9,7 +9,7 @@ ghost use Rattle.turned.specs.BlocksTurned.{turned_in};
 ghost use Rattle.rows.specs.Compared.{Lent, Compared};
 
 use rows::{add_rows, block_length};
-use seq::clear;
+use seq::fill;
 
 // The margins of the rows from `from` on.
 fn margins_into(
@@ -24,7 +24,7 @@ fn margins_into(
     ensures { block.new ≡ tabulate (λ i. margin_at (read_of matrix.now bits.now n)
         (length weights.now) weights.now (from + i)) (length block.old) }
 {
-    clear(&mut block[..]);
+    fill(&mut block[..], 0.0);
     let mut j = 0usize;
     while j < weights.len() {
         let w = weights[j];

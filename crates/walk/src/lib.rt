@@ -12,7 +12,7 @@ ghost use Rattle.walked.specs.Walking.{CourseHolds};
 
 use begin::begin;
 use draw::SplitMix64;
-use seq::fill_words;
+use seq::fill;
 use stepping::step;
 use walked::{Phased, Stand};
 
@@ -91,7 +91,7 @@ pub fn phase(
         (length cols.now) (length blocked.old) x.old
         (ax_in (length blocked.old) numbers.old) rng)) }
 {
-    fill_words(&mut free[..], 1);
+    fill(&mut free[..], 1);
     let count = begin(numbers, blocked, matrix, bits, n, cols, scale, &mut g[..]);
     steps(
         numbers,

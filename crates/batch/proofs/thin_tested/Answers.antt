@@ -18,7 +18,7 @@ thin_items-requires c =
     let w = wiped (lent_as a.matrix.now a.bits.now a.m a.n) a.m a.n a.items
     (listed a.weights.now a.seeds.now a.editions.now a.rules.now a.allowances.now a.limits.now)
     a.output.now a.numbers.now a.indices.now
-    c.clear.ensures c.clear_words.ensures (c.requires.fine c.if-number-ne0.false) in
+    c.fill.ensures c.fill-2.ensures (c.requires.fine c.if-number-ne0.false) in
     (c.requires.lent c.if-number-ne0.false, w.0, w.1)
 
 pub returns : goal.returns
@@ -27,4 +27,4 @@ returns c =
     all_done (lent_as a.matrix.now a.bits.now a.m a.n) a.m a.n a.items
     (listed a.weights.now a.seeds.now a.editions.now a.rules.now a.allowances.now a.limits.now)
     a.output.now a.numbers.now a.indices.now
-    c.clear.ensures c.clear_words.ensures c.if-number-ne0.false c.thin_items.ensures
+    c.fill.ensures c.fill-2.ensures c.if-number-ne0.false c.thin_items.ensures

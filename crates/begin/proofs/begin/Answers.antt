@@ -32,11 +32,11 @@ block_first-requires c =
     let r = length a.blocked.now in
     let e = entry_of a.matrix.now a.bits.now a.n a.cols.now a.scale.now in
     let l = length a.cols.now in
-    let lb = c.clear_words.auto.a in
+    let lb = c.fill.auto.a in
     let ln = normed_long e l r (r + r + r - (r + r)) (r - 0) (l / 4) c.first_rows-k.result a.numbers.now
     c.norms_into.new.acc _ c.first_rows-k.new.buf [] (omega arith) (omega arith) refl
     (omega (arith, p.2)) (omega (arith, p.0.few)) c.norms_into.ensures c.first_rows-k.ensures in record {
-      chosen = (rw lb p.0, p.1, rw lb (omega (arith, ln, p.2)), c.clear_words.ensures ∙ ap (repeated 0) (sym lb));
+      chosen = (rw lb p.0, p.1, rw lb (omega (arith, ln, p.2)), c.fill.ensures ∙ ap (repeated 0) (sym lb));
       by_index = rw lb (first-rows-below e l r (r + r + r - (r + r)) (r - 0) (l / 4) c.first_rows-k.result a.numbers.now
           c.norms_into.new.acc _ c.first_rows-k.new.buf _ (omega arith) (omega arith) refl
           (omega (arith, p.2)) (omega (arith, p.0.few)) c.norms_into.ensures
@@ -54,4 +54,4 @@ returns c =
     c.norms_into.new.acc _ c.first_rows-k.new.buf _ (omega arith) (omega arith) refl
     (omega (arith, p.2)) (omega (arith, p.0.few)) c.norms_into.ensures c.first_rows-k.ensures
     c.block_first.result c.block_first.new.numbers c.block_first.new.blocked
-    (rw c.clear_words.auto.a at c.block_first.ensures)
+    (rw c.fill.auto.a at c.block_first.ensures)

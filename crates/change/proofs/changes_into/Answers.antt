@@ -20,7 +20,7 @@ loop-j-init c =
       u.0.inside (omega arith),
       refl,
       block_passed (read_of a.matrix.now a.bits.now a.n) a.before.now a.after.now a.from _ _ 0 _
-          (rw c.clear.auto.a c.clear.ensures) u.0,
+          (rw c.fill.auto.a c.fill.ensures) u.0,
       u.1,
     )
 
@@ -94,4 +94,4 @@ pub returns : goal.returns
 returns c =
     let a = c.args in
     let all : c.loop-j.j ≡ length a.before.now = omega (arith, c.loop-j-test.false, c.loop-j.invariant.0) in
-    rw (← all, ← c.clear.auto.a) c.loop-j.invariant.2
+    rw (← all, ← c.fill.auto.a) c.loop-j.invariant.2

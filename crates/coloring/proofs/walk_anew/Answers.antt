@@ -6,16 +6,16 @@ use native.Mathlib.Omega.{arith}
 use lib.ListN.{length}
 use Rattle.coloring.proofs.walk_anew.Goals as goal
 
-pub slice_bounds-clear-end-2 : goal.slice_bounds-clear-end-2
-slice_bounds-clear-end-2 c = sym (length-take-le _ _ (omega arith))
+pub slice_bounds-fill-end-2 : goal.slice_bounds-fill-end-2
+slice_bounds-fill-end-2 c = sym (length-take-le _ _ (omega arith))
 
 pub walk_to_end-requires : goal.walk_to_end-requires
 walk_to_end-requires c =
     let a = c.args in (
       c.requires.0,
       roomy_still _ a.numbers.now _ a.blocked.now _ a.x.now _ a.free.now _ c.requires.1
-          (length_front a.numbers.now c.clear-2.new.a (length a.blocked.now) c.clear-2.auto.a) refl
-          c.clear.auto.a c.fill_words.auto.a,
+          (length_front a.numbers.now c.fill-2.new.a (length a.blocked.now) c.fill-2.auto.a) refl
+          c.fill.auto.a c.fill-3.auto.a,
       fresh_is _ _ a.numbers.now a.x.now _ _ a.free.now _ c.requires.1.wide c.requires.1.marks (omega arith)
-          c.clear.ensures c.clear-2.ensures c.fill_words.ensures,
+          c.fill.ensures c.fill-2.ensures c.fill-3.ensures,
     )

@@ -63,5 +63,5 @@ returns c =
     (colours_at (front_back _ x _ a.columns kept.x) c.color_all-c.ensures)
     (length-take-le _ _ (back_long _ x _ a.columns kept.x))
     c.write_colours.ensures
-    (c.clear.ensures ∙ rw kept.numbers)
-    (c.clear_words.ensures ∙ rw kept.indices)
+    (c.fill.ensures ∙ rw kept.numbers)
+    (c.fill-2.ensures ∙ rw kept.indices)

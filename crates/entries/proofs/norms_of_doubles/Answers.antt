@@ -15,7 +15,7 @@ use Rattle.entries.proofs.norms_of_doubles.Goals as goal
 
 pub loop-p-init : goal.loop-p-init
 unfolding sum_from
-loop-p-init c = (omega arith, refl, rw c.clear.auto.a c.clear.ensures)
+loop-p-init c = (omega arith, refl, rw c.fill.auto.a c.fill.ensures)
 
 pub overflow_cast-a : goal.overflow_cast-a
 overflow_cast-a c = omega (arith, c.type_inv.cols c.loop-p.p)
@@ -62,4 +62,4 @@ loop-p-preserved c =
 pub returns : goal.returns
 returns c =
     let all : c.loop-p.p ≡ length c.args.cols.now = omega arith in
-    rw (← all, ← c.clear.auto.a) c.loop-p.invariant.2
+    rw (← all, ← c.fill.auto.a) c.loop-p.invariant.2

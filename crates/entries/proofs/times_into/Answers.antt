@@ -20,7 +20,7 @@ loop-p-init c =
       l,
       refl,
       times-passed a.matrix.now a.bits.now a.n a.cols.now a.scale.now a.g.now _ c.requires.0 0 _ _ _
-          (rw c.clear.auto.a c.clear.ensures) c.next_live-p.ensures l,
+          (rw c.fill.auto.a c.fill.ensures) c.next_live-p.ensures l,
     )
 
 pub next_live-q-requires : goal.next_live-q-requires
@@ -29,7 +29,7 @@ next_live-q-requires c = c.requires.0.paired
 
 pub add_two_at-requires : goal.add_two_at-requires
 add_two_at-requires c = (
-  rw (c.loop-p.invariant.1 ∙ c.clear.auto.a) c.requires.0,
+  rw (c.loop-p.invariant.1 ∙ c.fill.auto.a) c.requires.0,
   c.requires.1,
   c.loop-p-test.true,
   c.if-q-cols.true,
@@ -60,7 +60,7 @@ loop-p-preserved-then-q-cols c =
 
 pub add_one_at-requires : goal.add_one_at-requires
 add_one_at-requires c =
-    (rw (c.loop-p.invariant.1 ∙ c.clear.auto.a) c.requires.0, c.requires.1, c.loop-p-test.true)
+    (rw (c.loop-p.invariant.1 ∙ c.fill.auto.a) c.requires.0, c.requires.1, c.loop-p-test.true)
 
 pub loop-p-smaller : goal.loop-p-smaller
 loop-p-smaller c = omega (arith, c.next_live-q.ensures.low)
@@ -82,4 +82,4 @@ loop-p-preserved c =
 pub returns : goal.returns
 returns c =
     let all : c.loop-p.p ≡ length c.args.cols.now = omega (arith, c.loop-p-test.false, c.loop-p.invariant.0) in
-    rw (← all, ← c.clear.auto.a) c.loop-p.invariant.2
+    rw (← all, ← c.fill.auto.a) c.loop-p.invariant.2

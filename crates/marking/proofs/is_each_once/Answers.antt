@@ -9,7 +9,7 @@ use Rattle.marking.proofs.is_each_once.Goals as goal
 
 pub loop-i-init : goal.loop-i-init
 loop-i-init c =
-    mark_none _ _ (c.clear_words.ensures ∙ ap (λ (k : ℕ). repeated 0 k) c.requires)
+    mark_none _ _ (c.fill.ensures ∙ ap (λ (k : ℕ). repeated 0 k) c.requires)
 
 pub overflow_cast-x : goal.overflow_cast-x
 overflow_cast-x c = omega (arith, c.type_inv.rows c.loop-i.i)

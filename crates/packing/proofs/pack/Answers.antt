@@ -16,7 +16,7 @@ slice_bounds-choose-end-2 c =
 
 pub slice_bounds-choose-end-4 : goal.slice_bounds-choose-end-4
 slice_bounds-choose-end-4 c =
-    sym (ap length (front_support c.args.w.now _ _ c.clear_words.new.a c.support_into-s.ensures
+    sym (ap length (front_support c.args.w.now _ _ c.fill.new.a c.support_into-s.ensures
     (c.support_into-s.auto.buf ∙ c.requires.0)) ∙ c.support_into-s.ensures.long)
 
 pub choose-requires : goal.choose-requires
@@ -24,7 +24,7 @@ choose-requires c =
     let w = c.args.w.now in
     let p = c.support_into-s.ensures in
     let long = c.support_into-s.auto.buf ∙ c.requires.0 in
-    let front = front_support w _ _ c.clear_words.new.a p long in (
+    let front = front_support w _ _ c.fill.new.a p long in (
       length-take-le _ _ (omega (arith, p.within, long, c.requires.1)) ∙ sym (ap length front ∙ p.long),
       subst (λ (xs : List ℕ). Below xs (length w)) (sym front) (support-below w),
     )
@@ -34,9 +34,9 @@ returns c =
     let w = c.args.w.now in
     let p = c.support_into-s.ensures in
     let long = c.support_into-s.auto.buf ∙ c.requires.0 in
-    let front = front_support w _ _ c.clear_words.new.a p long in
+    let front = front_support w _ _ c.fill.new.a p long in
     record {
-      numbers = columns_packed w _ _ _ p long c.clear_words.ensures;
+      numbers = columns_packed w _ _ _ p long c.fill.ensures;
       weights = weights_packed w _ c.args.kept.now c.choose.new.to _ p.long (omega (arith, p.within, long)) c.requires.1
-          (c.choose.ensures ∙ ap (chosen w) front) c.clear.ensures;
+          (c.choose.ensures ∙ ap (chosen w) front) c.fill-2.ensures;
     }

@@ -97,7 +97,7 @@ shape_of-x-then-p-eq0 c =
 
 pub shape_of-free-then-p-eq0 : goal.shape_of-free-then-p-eq0
 shape_of-free-then-p-eq0 c =
-    c.fill_words.auto.a ∙ c.phase_on-p.auto.free
+    c.fill.auto.a ∙ c.phase_on-p.auto.free
 
 pub shape_of-places-then-p-eq0 : goal.shape_of-places-then-p-eq0
 shape_of-places-then-p-eq0 c =
@@ -111,7 +111,7 @@ returns-then-p-eq0 c =
           (length a.blocked.now) a.rng a.numbers.now a.x.now a.free.now _ _ _ _ _
           (c.free_places-l.ensures.front ∙ ap (keep (is_set a.free.now)) c.requires.chosen.1.marks)
           c.phase_on-p.ensures d _ _ c.if-p-eq0.true c.round_free.ensures
-          c.fill_words.ensures;
+          c.fill.ensures;
     }
 
 pub shape_of-places-else-p-eq0 : goal.shape_of-places-else-p-eq0

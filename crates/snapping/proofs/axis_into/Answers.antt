@@ -2,4 +2,4 @@
 use Rattle.snapping.proofs.axis_into.Goals as goal
 
 pub returns : goal.returns
-returns c = rw c.clear.ensures
+returns c = rw c.fill.ensures

@@ -31,5 +31,5 @@ returns c =
     let k = c.follow-path.auto in
     done-from (read_of a.matrix.now a.bits.now a.n) a.n a.start.now a.source a.rule c.copy.ensures c.follow-path.ensures
     a.numbers.now _ a.indices.now _ c.answer_for.result c.answer_for.ensures
-    (c.clear.ensures ∙ ap (repeated plus_zero) k.numbers)
-    (c.clear_words.ensures ∙ ap (repeated 0) k.indices)
+    (c.fill.ensures ∙ ap (repeated plus_zero) k.numbers)
+    (c.fill-2.ensures ∙ ap (repeated 0) k.indices)

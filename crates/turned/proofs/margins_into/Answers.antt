@@ -10,7 +10,7 @@ use Rattle.turned.proofs.margins_into.Goals as goal
 
 pub loop-j-init : goal.loop-j-init
 unfolding sum_from
-loop-j-init c = (omega arith, refl, rw c.clear.auto.a c.clear.ensures)
+loop-j-init c = (omega arith, refl, rw c.fill.auto.a c.fill.ensures)
 
 pub add_rows-requires : goal.add_rows-requires
 add_rows-requires c =
@@ -34,4 +34,4 @@ loop-j-preserved c =
 pub returns : goal.returns
 returns c =
     let all : c.loop-j.j ≡ length c.args.weights.now = omega arith in
-    rw (← all, ← c.clear.auto.a) c.loop-j.invariant.2
+    rw (← all, ← c.fill.auto.a) c.loop-j.invariant.2

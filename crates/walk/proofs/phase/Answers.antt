@@ -17,21 +17,21 @@ steps-requires c =
       rw c.begin-count.auto.blocked p.0,
       start_room (entry_of a.matrix.now a.bits.now a.n a.cols.now a.scale.now) (length a.cols.now) a.numbers.now
           a.blocked.now a.x.now a.free.now c.begin-count.new.numbers c.begin-count.new.blocked
-          c.fill_words.new.a c.begin-count.result p.1 c.begin-count.ensures
-          c.begin-count.auto.numbers c.begin-count.auto.blocked c.fill_words.ensures,
+          c.fill.new.a c.begin-count.result p.1 c.begin-count.ensures
+          c.begin-count.auto.numbers c.begin-count.auto.blocked c.fill.ensures,
       c.begin-count.auto.v ∙ p.2,
       refl,
     )
 
 pub shape_of-free : goal.shape_of-free
 shape_of-free c =
-    c.steps.auto.free ∙ c.fill_words.auto.a
+    c.steps.auto.free ∙ c.fill.auto.a
 
 pub returns : goal.returns
 returns c =
     let a = c.args in
     let p = c.requires in
     phase_is (entry_of a.matrix.now a.bits.now a.n a.cols.now a.scale.now) (length a.cols.now) a.numbers.now a.blocked.now
-    a.x.now a.free.now c.begin-count.new.numbers c.begin-count.new.blocked c.fill_words.new.a
+    a.x.now a.free.now c.begin-count.new.numbers c.begin-count.new.blocked c.fill.new.a
     c.begin-count.result p.1 c.begin-count.ensures c.begin-count.auto.numbers c.begin-count.auto.blocked
-    c.fill_words.ensures a.rng c.steps.ensures
+    c.fill.ensures a.rng c.steps.ensures
