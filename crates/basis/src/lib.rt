@@ -18,15 +18,13 @@ fn pass(basis: &[f64], count: usize, l: usize, v: &mut [f64])
         return;
     }
     let mut c = dot(&basis[..l], &v[..]);
-    let mut k = 0usize;
-    while k + 1 < count {
+    for k in 0..count - 1 {
         let a = k * l;
         let m = a + l;
         let e = m + l;
         c = less_then_dot(v, c, &basis[a..m], &basis[m..e]);
-        k += 1;
     }
-    let a = k * l;
+    let a = (count - 1) * l;
     let e = a + l;
     less_scaled(v, c, &basis[a..e]);
 }
@@ -37,12 +35,10 @@ fn less_then_dot(v: &mut [f64], c: f64, q: &[f64], r: &[f64]) -> f64
     ensures { LessAndAlong plus_zero v.old c q.now r.now result v.new }
 {
     let mut along = 0.0;
-    let mut i = 0usize;
-    while i < v.len() {
-        let w = v[i] - c * q[i];
-        v[i] = w;
+    for (i, x) in v.iter_mut().enumerate() {
+        let w = *x - c * q[i];
+        *x = w;
         along = along + r[i] * w;
-        i += 1;
     }
     along
 }
@@ -52,10 +48,8 @@ fn less_scaled(v: &mut [f64], c: f64, q: &[f64])
     requires { length v.old ≡ length q.now }
     ensures { v.new ≡ tabulate (less_at c q.now v.old) (length v.old) }
 {
-    let mut i = 0usize;
-    while i < v.len() {
-        v[i] = v[i] - c * q[i];
-        i += 1;
+    for (i, x) in v.iter_mut().enumerate() {
+        *x = *x - c * q[i];
     }
 }
 
@@ -73,10 +67,8 @@ fn over(to: &mut [f64], d: f64, w: &[f64])
     requires { length to.old ≡ length w.now }
     ensures { to.new ≡ tabulate (over_at d w.now) (length w.now) }
 {
-    let mut i = 0usize;
-    while i < to.len() {
-        to[i] = w[i] / d;
-        i += 1;
+    for (i, x) in to.iter_mut().enumerate() {
+        *x = w[i] / d;
     }
 }
 

@@ -14,13 +14,7 @@ pub fn dot(a: &[f64], b: &[f64]) -> f64
     requires { length a.now ≤ length b.now }
     ensures { result ≡ dot_of plus_zero a.now b.now }
 {
-    let mut sum = 0.0;
-    let mut i = 0usize;
-    while i < a.len() {
-        sum = sum + a[i] * b[i];
-        i += 1;
-    }
-    sum
+    a.iter().zip(b).fold(0.0, |sum, (x, y)| sum + *x * *y)
 }
 
 pub fn norm(a: &[f64]) -> f64
@@ -31,16 +25,15 @@ pub fn norm(a: &[f64]) -> f64
 
 // The first place from `from` on whose magnitude is above `most`, or where the places end.
 fn next_larger(a: &[f64], from: usize, most: f64) -> usize
+    requires { from ≤ length a.now }
     ensures { NoLarger a.now most from result }
 {
-    let mut i = from;
-    while i < a.len() {
+    for i in from..a.len() {
         if most < abs(a[i]) {
             return i;
         }
-        i += 1;
     }
-    i
+    a.len()
 }
 
 // The largest magnitude, a NaN skipped; 0.0 of none. What is not above the largest so far is passed over, so that no place waits

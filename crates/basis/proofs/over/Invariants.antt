@@ -1,12 +1,7 @@
 -- `basis::over` meets its contract: the loop fills the part that is lent.
 use Rattle.seq.proofs.Filling.{Filled}
 use Rattle.basis.specs.Basis.{over_at}
-use Prim.Native.Nat.{◌-◌}
-use lib.ListN.{length}
 use Rattle.basis.proofs.over.Given as goal
 
 abbrev pub invariant-loop-i : goal.invariant-loop-i
 invariant-loop-i l = Filled (over_at l.d l.w) l.initial.to l.i l.to
-
-abbrev pub decreases-loop-i : goal.decreases-loop-i
-decreases-loop-i l = length l.initial.to - l.i

@@ -1,5 +1,5 @@
 -- `basis::pass` meets its contract: after k turns the first k vectors are projected out, and c is what is left along the next.
-use Prim.Native.Nat.{ℕ, ◌+◌, ◌*◌}
+use Prim.Native.Nat.{ℕ, ◌+◌, ◌*◌, ◌-◌}
 use mathlib.Core.Path.{◌≡◌, refl, sym, ap, ◌∙◌}
 use native.Mathlib.Nat.{zero-mul, add-sub_cancel_left}
 use native.Mathlib.Omega.{arith}
@@ -46,38 +46,38 @@ pub overflow_mul-a : goal.overflow_mul-a
 overflow_mul-a c = omega (
   arith,
   room (c.loop-k.k + 1) c.args.count
-      c.args.l c.loop-k-test.true,
+      c.args.l (omega arith),
 )
 
 pub overflow_add-m : goal.overflow_add-m
 overflow_add-m c = omega (
   arith,
   room (c.loop-k.k + 1) c.args.count
-      c.args.l c.loop-k-test.true,
+      c.args.l (omega arith),
 )
 
 pub overflow_add-e : goal.overflow_add-e
 overflow_add-e c = omega (
   arith,
   room (c.loop-k.k + 1) c.args.count
-      c.args.l c.loop-k-test.true,
+      c.args.l (omega arith),
 )
 
 pub offset_bounds-basis-a : goal.offset_bounds-basis-a
 offset_bounds-basis-a c =
-    omega (arith, room (c.loop-k.k + 1) c.args.count c.args.l c.loop-k-test.true)
+    omega (arith, room (c.loop-k.k + 1) c.args.count c.args.l (omega arith))
 
 pub slice_bounds-less_then_dot-end : goal.slice_bounds-less_then_dot-end
 slice_bounds-less_then_dot-end c =
-    omega (arith, room (c.loop-k.k + 1) c.args.count c.args.l c.loop-k-test.true)
+    omega (arith, room (c.loop-k.k + 1) c.args.count c.args.l (omega arith))
 
 pub offset_bounds-basis-m : goal.offset_bounds-basis-m
 offset_bounds-basis-m c =
-    omega (arith, room (c.loop-k.k + 1) c.args.count c.args.l c.loop-k-test.true)
+    omega (arith, room (c.loop-k.k + 1) c.args.count c.args.l (omega arith))
 
 pub slice_bounds-less_then_dot-end-in-loop-k : goal.slice_bounds-less_then_dot-end-in-loop-k
 slice_bounds-less_then_dot-end-in-loop-k c =
-    omega (arith, room (c.loop-k.k + 1) c.args.count c.args.l c.loop-k-test.true)
+    omega (arith, room (c.loop-k.k + 1) c.args.count c.args.l (omega arith))
 
 pub loop-k-preserved : goal.loop-k-preserved
 loop-k-preserved c =
@@ -85,7 +85,7 @@ loop-k-preserved c =
     let l = c.loop-k in
     let less = simp add-sub_cancel_left at c.less_then_dot-c.ensures.less in
     let next : l.k * a.l + a.l ≡ (l.k + 1) * a.l = omega arith in (
-      c.loop-k-test.true,
+      (omega arith),
       c.less_then_dot-c.auto.v ∙ l.invariant.1,
       pass_turn a.l a.count l.k a.basis.now a.v.now l.v _ l.c l.invariant.0 l.invariant.2 l.invariant.3 less,
       simp add-sub_cancel_left at c.less_then_dot-c.ensures.along
@@ -96,29 +96,30 @@ loop-k-preserved c =
 pub overflow_mul-a-2 : goal.overflow_mul-a-2
 overflow_mul-a-2 c = omega (
   arith,
-  room c.loop-k.k c.args.count
-      c.args.l c.loop-k.invariant.0,
+  room (c.args.count - 1) c.args.count
+      c.args.l (omega arith),
 )
 
 pub overflow_add-e-2 : goal.overflow_add-e-2
 overflow_add-e-2 c = omega (
   arith,
-  room c.loop-k.k c.args.count
-      c.args.l c.loop-k.invariant.0,
+  room (c.args.count - 1) c.args.count
+      c.args.l (omega arith),
 )
 
 pub offset_bounds-basis-a-2 : goal.offset_bounds-basis-a-2
 offset_bounds-basis-a-2 c =
-    omega (arith, room c.loop-k.k c.args.count c.args.l c.loop-k.invariant.0)
+    omega (arith, room (c.args.count - 1) c.args.count c.args.l (omega arith))
 
 pub slice_bounds-less_scaled-end : goal.slice_bounds-less_scaled-end
 slice_bounds-less_scaled-end c =
-    omega (arith, room c.loop-k.k c.args.count c.args.l c.loop-k.invariant.0)
+    omega (arith, room (c.args.count - 1) c.args.count c.args.l (omega arith))
 
 pub returns : goal.returns
 returns c =
     let a = c.args in
     let l = c.loop-k in
+    let last : a.count - 1 ≡ l.k = omega arith in
     let done : l.k + 1 ≡ a.count = omega arith in
     pass_turn a.l a.count l.k a.basis.now a.v.now l.v _ l.c l.invariant.0 l.invariant.2 l.invariant.3
-    (simp add-sub_cancel_left at c.less_scaled.ensures) ∙ ap (pass_to plus_zero _ _) done
+    (rw last at (simp add-sub_cancel_left at c.less_scaled.ensures)) ∙ ap (pass_to plus_zero _ _) done

@@ -1,5 +1,5 @@
 -- `basis::pass` meets its contract: after k turns the first k vectors are projected out, and c is what is left along the next.
-use Prim.Native.Nat.{◌*◌, ◌-◌, ◌<◌}
+use Prim.Native.Nat.{◌*◌, ◌<◌}
 use mathlib.Core.Path.{◌≡◌}
 use lib.ListN.{length}
 use Rattle.seq.specs.Lists.{part}
@@ -12,6 +12,3 @@ use Rattle.basis.proofs.pass.Given as goal
 abbrev pub invariant-loop-k : goal.invariant-loop-k
 invariant-loop-k l =
     (l.k < l.count) × (length l.v ≡ l.l) × (l.v ≡ pass_to plus_zero (vectors_in l.l l.count l.basis) l.initial.v l.k) × (l.c ≡ dot_of plus_zero (part (l.k * l.l) l.l l.basis) l.v)
-
-abbrev pub decreases-loop-k : goal.decreases-loop-k
-decreases-loop-k l = l.count - l.k

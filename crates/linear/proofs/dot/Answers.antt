@@ -1,21 +1,19 @@
--- `linear::dot` meets its contract: after i turns the sum is that of the first i products.
-use Rattle.seq.specs.Sums.{sum_from}
+-- `linear::dot` meets its contract: the fold over both slices is the sum over their indices.
+use mathlib.Core.Path.{◌∙◌}
+use lib.Ieee.{binary64, nan, add, mul}
+use Rattle.std.proofs.Common.{rules}
+use Rattle.std.proofs.lemmas.Iterator.{YieldsList-from_slice, YieldsList-from_zip}
+use Rattle.std.proofs.lemmas.Iterator.Consumers.{fold_from_yields_List}
+use borrow.Author.Tests.{tests}
+use Rattle.seq.specs.Sums.{plus_zero}
+use Rattle.seq.proofs.Summing.{sum_zip}
 use Rattle.linear.specs.Vectors.{dot_of}
-use Rattle.seq.proofs.Summing.{sum_more}
-use mathlib.Core.Path.{◌≡◌, refl}
-use native.Mathlib.Omega.{arith}
-use lib.ListN.{length}
 use Rattle.linear.proofs.dot.Goals as goal
-
-pub loop-i-init : goal.loop-i-init
-unfolding sum_from
-loop-i-init c = (omega arith, refl)
-
-pub loop-i-preserved : goal.loop-i-preserved
-loop-i-preserved c = (omega arith, rw (sum_more, c.loop-i.invariant.1))
 
 pub returns : goal.returns
 unfolding dot_of
 returns c =
-    let done : c.loop-i.i ≡ length c.args.a.now = omega arith in
-    rw (← done) c.loop-i.invariant.1
+    fold_from_yields_List _ (λ s p. add binary64 s (mul binary64 p.0 p.1)) plus_zero c.fold.result c.fold.ensures.ran
+    (YieldsList-from_zip (YieldsList-from_slice c.args.a.now cc) (YieldsList-from_slice c.args.b.now cc))
+    (λ s p b q k. search (rules, tests))
+    ∙ sum_zip nan nan c.args.a.now c.args.b.now binary64 plus_zero (mul binary64) c.requires
