@@ -18,15 +18,14 @@ pub fn stays_below(ax: &[f64], column: &[f64], s: f64, t: f64, bound: f64) -> bo
     if !(0.0 < bound) {
         return false;
     }
-    let mut i = 0usize;
-    while i < column.len() {
-        if abs(ax[i] - t * (column[i] * s)) >= bound {
+    for (i, x) in column.iter().enumerate() {
+        if abs(ax[i] - t * (*x * s)) >= bound {
             return false;
         }
-        i += 1;
     }
-    if i < ax.len() {
-        return !(abs(ax[i] - t * abs(s)) >= bound);
+    let under = column.len();
+    if under < ax.len() {
+        return !(abs(ax[under] - t * abs(s)) >= bound);
     }
     true
 }

@@ -14,13 +14,12 @@ pub fn add_column(acc: &mut [f64], column: &[f64], s: f64, g: f64)
     ensures { acc.new ≡ tabulate (plus_column (scaled_at column.now s) g acc.old)
         (length acc.old) }
 {
-    let mut i = 0usize;
-    while i < column.len() {
-        acc[i] = acc[i] + (column[i] * s) * g;
-        i += 1;
+    for (i, x) in column.iter().enumerate() {
+        acc[i] = acc[i] + (*x * s) * g;
     }
-    if i < acc.len() {
-        acc[i] = acc[i] + abs(s) * g;
+    let under = column.len();
+    if under < acc.len() {
+        acc[under] = acc[under] + abs(s) * g;
     }
 }
 
@@ -30,15 +29,14 @@ pub fn add_squares(acc: &mut [f64], column: &[f64], s: f64)
     ensures { acc.new ≡ tabulate (plus_squares (scaled_at column.now s) acc.old)
         (length acc.old) }
 {
-    let mut i = 0usize;
-    while i < column.len() {
-        let e = column[i] * s;
+    for (i, x) in column.iter().enumerate() {
+        let e = *x * s;
         acc[i] = acc[i] + e * e;
-        i += 1;
     }
-    if i < acc.len() {
+    let under = column.len();
+    if under < acc.len() {
         let e = abs(s);
-        acc[i] = acc[i] + e * e;
+        acc[under] = acc[under] + e * e;
     }
 }
 
@@ -58,12 +56,11 @@ pub fn add_two(acc: &mut [f64], first: &[f64], s: f64, g: f64, second: &[f64], t
         (plus_columns (scaled_at first.now s) g (scaled_at second.now t) h acc.old)
         (length acc.old) }
 {
-    let mut i = 0usize;
-    while i < first.len() {
-        acc[i] = (acc[i] + (first[i] * s) * g) + (second[i] * t) * h;
-        i += 1;
+    for (i, x) in first.iter().enumerate() {
+        acc[i] = (acc[i] + (*x * s) * g) + (second[i] * t) * h;
     }
-    if i < acc.len() {
-        acc[i] = (acc[i] + abs(s) * g) + abs(t) * h;
+    let under = first.len();
+    if under < acc.len() {
+        acc[under] = (acc[under] + abs(s) * g) + abs(t) * h;
     }
 }

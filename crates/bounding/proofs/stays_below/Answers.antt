@@ -22,14 +22,14 @@ returns-then-not-bound c =
     (subst T (sym c.well_formed.1.1.1.1.0.1) tt) _ c.if-not-bound.true)
 
 pub loop-i-init : goal.loop-i-init
-loop-i-init c = (omega arith, unfold max_abs_to in c.if-not-bound.false)
+loop-i-init c = unfold max_abs_to in c.if-not-bound.false
 
 pub returns-then-abs-bound : goal.returns-then-abs-bound
 returns-then-abs-bound c =
     let a = c.args in
     let i = c.loop-i.i in
     let e : le a.bound (abs_of (less_column (scaled_at a.column.now a.s) a.t a.ax.now i)) ≡ true =
-    rw (scaled_own a.column.now a.s i c.loop-i-test.true, ← c.abs.ensures)
+    rw (scaled_own a.column.now a.s i (omega arith), ← c.abs.ensures)
     c.if-abs-bound.true in
     sym (not_below (less_column (scaled_at a.column.now a.s) a.t a.ax.now) (λ j. sub-fits binary64 _ _) a.bound
     (subst T (sym c.well_formed.1.1.1.1.0.1) tt) i _ (omega arith) e)
@@ -39,24 +39,23 @@ loop-i-preserved c =
     let a = c.args in
     let i = c.loop-i.i in
     let e : le a.bound (abs_of (less_column (scaled_at a.column.now a.s) a.t a.ax.now i)) ≡ false =
-    rw (scaled_own a.column.now a.s i c.loop-i-test.true, ← c.abs.ensures)
-    c.if-abs-bound.false in (
-      omega arith,
-      still_below (less_column (scaled_at a.column.now a.s) a.t a.ax.now) (λ j. sub-fits binary64 _ _) a.bound
-          (subst T (sym c.well_formed.1.1.1.1.0.1) tt) i c.loop-i.invariant.1 e,
-    )
+    rw (scaled_own a.column.now a.s i (omega arith), ← c.abs.ensures)
+    c.if-abs-bound.false in
+    still_below (less_column (scaled_at a.column.now a.s) a.t a.ax.now) (λ j. sub-fits binary64 _ _) a.bound
+    (subst T (sym c.well_formed.1.1.1.1.0.1) tt) i c.loop-i.invariant e
 
-pub returns-then-i-ax : goal.returns-then-i-ax
-returns-then-i-ax c =
+pub returns-then-under-ax : goal.returns-then-under-ax
+returns-then-under-ax c =
     let a = c.args in
     let i = c.loop-i.i in
     let all : length a.ax.now ≡ i + 1 = omega arith in
-    let e : c.abs-then-i-ax-2.result ≡ abs_of (less_column (scaled_at a.column.now a.s) a.t a.ax.now i) =
-    c.abs-then-i-ax-2.ensures ∙ rw (scaled_under a.column.now a.s i c.loop-i-test.false, c.abs-then-i-ax.ensures) in
+    let under : i ≡ length a.column.now = omega arith in
+    let e : c.abs-then-under-ax-2.result ≡ abs_of (less_column (scaled_at a.column.now a.s) a.t a.ax.now i) =
+    c.abs-then-under-ax-2.ensures ∙ rw (scaled_under a.column.now a.s i (omega arith), ← under, c.abs-then-under-ax.ensures) in
     rw (e, all) (last-below (less_column (scaled_at a.column.now a.s) a.t a.ax.now) (λ j. sub-fits binary64 _ _)
-    a.bound (subst T (sym c.well_formed.1.1.1.1.0.1) tt) i c.loop-i.invariant.1)
+    a.bound (subst T (sym c.well_formed.1.1.1.1.0.1) tt) i c.loop-i.invariant)
 
 pub returns : goal.returns
 returns c =
     let all : c.loop-i.i ≡ length c.args.ax.now = omega arith in
-    sym (rw (← all) c.loop-i.invariant.1)
+    sym (rw (← all) c.loop-i.invariant)
