@@ -7,8 +7,8 @@ use native.Mathlib.Nat.{mul-le-mul_right}
 use native.Mathlib.Decide.{dec_lt}
 use native.Mathlib.Omega.{arith}
 use native.Mathlib.Numerals.{add-one}
-use lib.ListN.{length, get_or, take, drop, set, length-set, length-append, get_or-append, take-append-drop}
-use lib.Seq.{take_all, take-suc, drop-cons, set_at, get_or_at, drop-length, append_snoc, get_or-append-add, get_or-drop}
+use lib.ListN.{length, get_or, take, drop, set, length-set, length-append, get_or-append, take-append-drop, drop_of_length-le}
+use lib.Seq.{take_all, take-suc, drop-cons, set_at, get_or_at, drop-length, append_snoc, get_or-append-add, get_or-drop, length-take-le}
 use Rattle.seq.specs.Lists.{tabulate}
 
 module _ {A : Type 0} where
@@ -111,6 +111,16 @@ module _ {A : Type 0} where
       let p : j ≡ length (tabulate f i) + (j - i) = omega (arith, length-tab f i) in
       let q : i + (j - i) ≡ j = omega arith in
       rw e.is (ap (λ n. get_or (filled f w i) n z) p ∙ get_or-append-add (tabulate f i) (drop i w) (j - i) z ∙ get_or-drop i w (j - i) z ∙ ap (λ n. get_or w n z) q)
+
+  -- a loop that copies b from the front: a turn, and the end
+  pub copied_more : (b w : List A) (i : ℕ) (x : A) → i < length w → i < length b → x ≡ get_or b i x
+      → set (take i b ++ drop i w) i x ≡ take (i + 1) b ++ drop (i + 1) w
+  copied_more b w i x h g e =
+      rw (add-one i, drop-cons w i x h, take-suc b i x g, ← e)
+      (set_at (take i b) (get_or w i x) (drop (suc i) w) x i (length-take-le i b (omega arith)) ∙ sym (append_snoc (take i b) x (drop (suc i) w)))
+
+  pub copied_all : (b w : List A) (i : ℕ) → length w ≤ i → length b ≤ i → take i b ++ drop i w ≡ b
+  copied_all b w i h g = rw (drop_of_length-le w h, take_all i b g) (append-nil b)
 
   -- a loop that fills with the elements of b has copied b
   pub copied : {b w v : List A} {i : ℕ} (z : A) → Filled (λ k. get_or b k z) w i v → length w ≤ i → length w ≡ length b → v ≡ b
