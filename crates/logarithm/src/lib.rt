@@ -18,12 +18,10 @@ fn long_division(f: u64) -> u64
     let den = f + 0x20_0000_0000_0000;
     let mut q: u64 = 0;
     let mut rest = f;
-    let mut k = 0usize;
-    while k < 5 {
+    for _k in 0..5u32 {
         let x = rest * 1024;
         q = q * 1024 + x / den;
         rest = x % den;
-        k += 1;
     }
     q
 }
@@ -50,7 +48,7 @@ fn ratio_of(f: u64) -> u64
 }
 
 // The logarithm's series: a power, and the sum of the powers below it, each by its divisor.
-#[derive(Drop)]
+#[derive(Clone, Copy)]
 struct LnTerms {
     power: u64,
     sum: u64,
@@ -67,7 +65,8 @@ fn ln_turn(s: LnTerms, w: u64, d: u64) -> LnTerms
     }
 }
 
-// The series to its sixth power, to its eleventh, and so on: a turn a power, in straight code. The first power needs no turn.
+// The series to its sixth power, to its eleventh, and so on: a turn a power, in straight code, so that each divisor is a constant and
+// a division by it a product. The first power needs no turn.
 fn ln_terms_to_6(q: u64, w: u64) -> LnTerms
     requires { (q < 2 ^ 49) × (w ≡ ratio_square q) }
     ensures { LnAt q 6 result }

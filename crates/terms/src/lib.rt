@@ -8,7 +8,7 @@ use divisors::DIVISORS;
 use wide::{lower, upper};
 
 // The cosine's series: a term, the sum of the terms up to it that have its sign, and the sum of the others.
-#[derive(Drop)]
+#[derive(Clone, Copy)]
 pub struct CosTerms {
     pub term: u64,
     pub plus: u64,
@@ -28,7 +28,8 @@ fn cos_turn(s: CosTerms, z: u64, d: u64) -> CosTerms
     }
 }
 
-// The series to its fifth term, to its tenth, and so on: a turn a term, in straight code.
+// The series to its fifth term, to its tenth, and so on: a turn a term, in straight code, so that each divisor is a constant and a
+// division by it a product.
 fn cos_terms_to_5(z: u64) -> CosTerms
     requires { z ≤ 5 * 2 ^ 61 }
     ensures { CosAt z 5 result }
@@ -82,7 +83,7 @@ fn cos_terms_to_20(z: u64) -> CosTerms
 }
 
 // The same series by a shorter way, and a mark: while `doubt` is below 2^63, each term is right.
-#[derive(Drop)]
+#[derive(Clone, Copy)]
 struct NearTerms {
     terms: CosTerms,
     doubt: u64,

@@ -35,28 +35,27 @@ divided f k q rest g h =
 pub loop-k-init : goal.loop-k-init
 loop-k-init c =
     let l : c.args.f < c.args.f + 2 ^ 53 = omega arith in
-    (omega arith, rw (mul-one c.args.f) (sym (div-eq_of_lt l)), rw (mul-one c.args.f) (sym (mod-eq_of_lt l)))
+    (rw (mul-one c.args.f) (sym (div-eq_of_lt l)), rw (mul-one c.args.f) (sym (mod-eq_of_lt l)))
 
 pub overflow_mul-x : goal.overflow_mul-x
-overflow_mul-x c = omega (arith, mod-lt (c.args.f * 1024 ^ c.loop-k.k) {m = c.args.f + 2 ^ 53} (omega arith))
+overflow_mul-x c = omega (arith, mod-lt (c.args.f * 1024 ^ c.loop-k._k) {m = c.args.f + 2 ^ 53} (omega arith))
 
 pub overflow_mul-q : goal.overflow_mul-q
-overflow_mul-q c = omega (arith, quotient_small c.args.f c.loop-k.k (omega arith))
+overflow_mul-q c = omega (arith, quotient_small c.args.f c.loop-k._k (omega arith))
 
 pub overflow_add-q : goal.overflow_add-q
-overflow_add-q c = omega (arith, divided _ _ _ _ c.loop-k.invariant.1 c.loop-k.invariant.2, quotient_small c.args.f (c.loop-k.k + 1) (omega arith))
+overflow_add-q c = omega (arith, divided _ _ _ _ c.loop-k.invariant.0 c.loop-k.invariant.1, quotient_small c.args.f (c.loop-k._k + 1) (omega arith))
 
 pub loop-k-preserved : goal.loop-k-preserved
 loop-k-preserved c =
     let f = c.args.f in (
-      omega arith,
-      divided _ _ _ _ c.loop-k.invariant.1 c.loop-k.invariant.2,
-      rw c.loop-k.invariant.2 (next_rest (f * 1024 ^ c.loop-k.k) (f + 2 ^ 53) ∙ ap (λ (x : ℕ). x % (f + 2 ^ 53))
-          (power_step f c.loop-k.k)),
+      divided _ _ _ _ c.loop-k.invariant.0 c.loop-k.invariant.1,
+      rw c.loop-k.invariant.1 (next_rest (f * 1024 ^ c.loop-k._k) (f + 2 ^ 53) ∙ ap (λ (x : ℕ). x % (f + 2 ^ 53))
+          (power_step f c.loop-k._k)),
     )
 
 pub returns : goal.returns
 unfolding ratio
 returns c =
-    let done : c.loop-k.k ≡ 5 = omega arith in
-    c.loop-k.invariant.1 ∙ ap (λ (k : ℕ). c.args.f * 1024 ^ k / (c.args.f + 2 ^ 53)) done
+    let done : c.loop-k._k ≡ 5 = omega arith in
+    c.loop-k.invariant.0 ∙ ap (λ (k : ℕ). c.args.f * 1024 ^ k / (c.args.f + 2 ^ 53)) done
