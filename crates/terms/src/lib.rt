@@ -28,58 +28,52 @@ fn cos_turn(s: CosTerms, z: u64, d: u64) -> CosTerms
     }
 }
 
-// The series to its fifth term, to its tenth, and so on: a turn a term, in straight code, so that each divisor is a constant and a
-// division by it a product.
+// From the series' term K to the next: its divisor is a constant, so that the compiler makes the division a product.
+fn cos_next<const K: usize>(s: CosTerms, z: u64) -> CosTerms
+    requires { (K < 20) × (z ≤ 5 * 2 ^ 61) × CosAt z K s }
+    ensures { CosAt z (K + 1) result }
+{
+    cos_turn(s, z, DIVISORS[K])
+}
+
+// The series to its fifth term.
 fn cos_terms_to_5(z: u64) -> CosTerms
     requires { z ≤ 5 * 2 ^ 61 }
     ensures { CosAt z 5 result }
 {
-    let a = CosTerms {
+    let s = CosTerms {
         term: 2251799813685248,
         plus: 2251799813685248,
         minus: 0,
     };
-    let b = cos_turn(a, z, DIVISORS[0]);
-    let c = cos_turn(b, z, DIVISORS[1]);
-    let d = cos_turn(c, z, DIVISORS[2]);
-    let e = cos_turn(d, z, DIVISORS[3]);
-    cos_turn(e, z, DIVISORS[4])
+    let s = cos_next::<0>(s, z);
+    let s = cos_next::<1>(s, z);
+    let s = cos_next::<2>(s, z);
+    let s = cos_next::<3>(s, z);
+    cos_next::<4>(s, z)
 }
 
-fn cos_terms_to_10(z: u64) -> CosTerms
-    requires { z ≤ 5 * 2 ^ 61 }
-    ensures { CosAt z 10 result }
-{
-    let a = cos_terms_to_5(z);
-    let b = cos_turn(a, z, DIVISORS[5]);
-    let c = cos_turn(b, z, DIVISORS[6]);
-    let d = cos_turn(c, z, DIVISORS[7]);
-    let e = cos_turn(d, z, DIVISORS[8]);
-    cos_turn(e, z, DIVISORS[9])
-}
-
-fn cos_terms_to_15(z: u64) -> CosTerms
-    requires { z ≤ 5 * 2 ^ 61 }
-    ensures { CosAt z 15 result }
-{
-    let a = cos_terms_to_10(z);
-    let b = cos_turn(a, z, DIVISORS[10]);
-    let c = cos_turn(b, z, DIVISORS[11]);
-    let d = cos_turn(c, z, DIVISORS[12]);
-    let e = cos_turn(d, z, DIVISORS[13]);
-    cos_turn(e, z, DIVISORS[14])
-}
-
+// And to its twentieth.
 fn cos_terms_to_20(z: u64) -> CosTerms
     requires { z ≤ 5 * 2 ^ 61 }
     ensures { CosAt z 20 result }
 {
-    let a = cos_terms_to_15(z);
-    let b = cos_turn(a, z, DIVISORS[15]);
-    let c = cos_turn(b, z, DIVISORS[16]);
-    let d = cos_turn(c, z, DIVISORS[17]);
-    let e = cos_turn(d, z, DIVISORS[18]);
-    cos_turn(e, z, DIVISORS[19])
+    let s = cos_terms_to_5(z);
+    let s = cos_next::<5>(s, z);
+    let s = cos_next::<6>(s, z);
+    let s = cos_next::<7>(s, z);
+    let s = cos_next::<8>(s, z);
+    let s = cos_next::<9>(s, z);
+    let s = cos_next::<10>(s, z);
+    let s = cos_next::<11>(s, z);
+    let s = cos_next::<12>(s, z);
+    let s = cos_next::<13>(s, z);
+    let s = cos_next::<14>(s, z);
+    let s = cos_next::<15>(s, z);
+    let s = cos_next::<16>(s, z);
+    let s = cos_next::<17>(s, z);
+    let s = cos_next::<18>(s, z);
+    cos_next::<19>(s, z)
 }
 
 // The same series by a shorter way, and a mark: while `doubt` is below 2^63, each term is right.
@@ -120,43 +114,37 @@ fn near_turn(n: NearTerms, z: u64, d: u64) -> NearTerms
     }
 }
 
-// The series by the shorter way from its fifth term to its tenth, and so on.
-fn near_terms_to_10(z: u64) -> NearTerms
-    requires { z ≤ 5 * 2 ^ 61 }
-    ensures { NearAt z 10 result }
+// From its term K to the next by the shorter way.
+fn near_next<const K: usize>(n: NearTerms, z: u64) -> NearTerms
+    requires { (5 ≤ K) × (K < 20) × (z ≤ 5 * 2 ^ 61) × NearAt z K n }
+    ensures { NearAt z (K + 1) result }
 {
-    let a = NearTerms {
-        terms: cos_terms_to_5(z),
-        doubt: 0,
-    };
-    let b = near_turn(a, z, DIVISORS[5]);
-    let c = near_turn(b, z, DIVISORS[6]);
-    let d = near_turn(c, z, DIVISORS[7]);
-    let e = near_turn(d, z, DIVISORS[8]);
-    near_turn(e, z, DIVISORS[9])
+    near_turn(n, z, DIVISORS[K])
 }
 
-fn near_terms_to_15(z: u64) -> NearTerms
-    requires { z ≤ 5 * 2 ^ 61 }
-    ensures { NearAt z 15 result }
-{
-    let a = near_terms_to_10(z);
-    let b = near_turn(a, z, DIVISORS[10]);
-    let c = near_turn(b, z, DIVISORS[11]);
-    let d = near_turn(c, z, DIVISORS[12]);
-    let e = near_turn(d, z, DIVISORS[13]);
-    near_turn(e, z, DIVISORS[14])
-}
-
+// The series by the shorter way from its fifth term to its nineteenth.
 fn near_terms_to_19(z: u64) -> NearTerms
     requires { z ≤ 5 * 2 ^ 61 }
     ensures { NearAt z 19 result }
 {
-    let a = near_terms_to_15(z);
-    let b = near_turn(a, z, DIVISORS[15]);
-    let c = near_turn(b, z, DIVISORS[16]);
-    let d = near_turn(c, z, DIVISORS[17]);
-    near_turn(d, z, DIVISORS[18])
+    let n = NearTerms {
+        terms: cos_terms_to_5(z),
+        doubt: 0,
+    };
+    let n = near_next::<5>(n, z);
+    let n = near_next::<6>(n, z);
+    let n = near_next::<7>(n, z);
+    let n = near_next::<8>(n, z);
+    let n = near_next::<9>(n, z);
+    let n = near_next::<10>(n, z);
+    let n = near_next::<11>(n, z);
+    let n = near_next::<12>(n, z);
+    let n = near_next::<13>(n, z);
+    let n = near_next::<14>(n, z);
+    let n = near_next::<15>(n, z);
+    let n = near_next::<16>(n, z);
+    let n = near_next::<17>(n, z);
+    near_next::<18>(n, z)
 }
 
 // The series to its twentieth term, which is 0: by the shorter way, and where that leaves a doubt by the plain one.
