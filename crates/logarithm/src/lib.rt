@@ -1,7 +1,7 @@
 // The logarithm's series in fixed point, behind the Gaussian draw.
 #![tactic(auto)]
 
-ghost use Rattle.std.specs.Prelude.{◌≡◌, ◌*◌, ◌^◌, ◌<◌, ◌≤◌};
+ghost use Rattle.std.specs.Prelude.{◌≡◌, ◌+◌, ◌*◌, ◌^◌, ◌<◌, ◌≤◌};
 ghost use Rattle.std.specs.Float.{binary64};
 ghost use Rattle.std.specs.Float.Ieee.{to_bits};
 ghost use Rattle.logarithm.specs.Logarithm.{ratio, ratio_square, odd_sum, ln_of};
@@ -65,46 +65,47 @@ fn ln_turn(s: LnTerms, w: u64, d: u64) -> LnTerms
     }
 }
 
-// The series to its sixth power, to its eleventh, and so on: a turn a power, in straight code, so that each divisor is a constant and
-// a division by it a product. The first power needs no turn.
-fn ln_terms_to_6(q: u64, w: u64) -> LnTerms
-    requires { (q < 2 ^ 49) × (w ≡ ratio_square q) }
-    ensures { LnAt q 6 result }
+// A ratio, and its square as a part of 2^64: they go through the series together.
+#[derive(Clone, Copy)]
+struct Ratio {
+    q: u64,
+    w: u64,
+    ghost small: { q < 2 ^ 49 },
+    ghost square: { w ≡ ratio_square q },
+}
+
+// From the series' power K to the next: its divisor is a constant, so that the compiler makes a division by it a product.
+fn ln_next<const K: usize>(s: LnTerms, r: Ratio) -> LnTerms
+    requires { (1 ≤ K) × (K < 17) × LnAt r.q K s }
+    ensures { LnAt r.q (K + 1) result }
 {
-    let first = q * 512;
-    let a = LnTerms {
-        power: upper(first, w),
+    ln_turn(s, r.w, DIVISORS[20 + K])
+}
+
+// The series to its sixteenth power. The first power needs no turn.
+fn ln_terms(r: Ratio) -> LnTerms
+    ensures { LnAt r.q 16 result }
+{
+    let first = r.q * 512;
+    let s = LnTerms {
+        power: upper(first, r.w),
         sum: first / DIVISORS[20],
     };
-    let b = ln_turn(a, w, DIVISORS[21]);
-    let c = ln_turn(b, w, DIVISORS[22]);
-    let d = ln_turn(c, w, DIVISORS[23]);
-    let e = ln_turn(d, w, DIVISORS[24]);
-    ln_turn(e, w, DIVISORS[25])
-}
-
-fn ln_terms_to_11(q: u64, w: u64) -> LnTerms
-    requires { (q < 2 ^ 49) × (w ≡ ratio_square q) }
-    ensures { LnAt q 11 result }
-{
-    let a = ln_terms_to_6(q, w);
-    let b = ln_turn(a, w, DIVISORS[26]);
-    let c = ln_turn(b, w, DIVISORS[27]);
-    let d = ln_turn(c, w, DIVISORS[28]);
-    let e = ln_turn(d, w, DIVISORS[29]);
-    ln_turn(e, w, DIVISORS[30])
-}
-
-fn ln_terms_to_16(q: u64, w: u64) -> LnTerms
-    requires { (q < 2 ^ 49) × (w ≡ ratio_square q) }
-    ensures { LnAt q 16 result }
-{
-    let a = ln_terms_to_11(q, w);
-    let b = ln_turn(a, w, DIVISORS[31]);
-    let c = ln_turn(b, w, DIVISORS[32]);
-    let d = ln_turn(c, w, DIVISORS[33]);
-    let e = ln_turn(d, w, DIVISORS[34]);
-    ln_turn(e, w, DIVISORS[35])
+    let s = ln_next::<1>(s, r);
+    let s = ln_next::<2>(s, r);
+    let s = ln_next::<3>(s, r);
+    let s = ln_next::<4>(s, r);
+    let s = ln_next::<5>(s, r);
+    let s = ln_next::<6>(s, r);
+    let s = ln_next::<7>(s, r);
+    let s = ln_next::<8>(s, r);
+    let s = ln_next::<9>(s, r);
+    let s = ln_next::<10>(s, r);
+    let s = ln_next::<11>(s, r);
+    let s = ln_next::<12>(s, r);
+    let s = ln_next::<13>(s, r);
+    let s = ln_next::<14>(s, r);
+    ln_next::<15>(s, r)
 }
 
 // The logarithm's sum, A(s) * 2^58, of q, which is s * 2^50: the powers that add nothing are left out.
@@ -113,7 +114,7 @@ fn odd_sum(q: u64) -> u64
     ensures { result ≡ odd_sum q 21 }
 {
     let s = q * 16384;
-    let o = ln_terms_to_16(q, upper(s, s));
+    let o = ln_terms(Ratio { q, w: upper(s, s) });
     o.sum + over(o.power, DIVISORS[36])
 }
 

@@ -7,18 +7,15 @@ use Rattle.logarithm.proofs.Logs.{q_half}
 use Rattle.logarithm.proofs.LnTurns.{ready, sum_fits, summed}
 use Rattle.logarithm.proofs.odd_sum.Goals as goal
 
-pub ln_terms_to_16-o-requires : goal.ln_terms_to_16-o-requires
-ln_terms_to_16-o-requires c = (omega (arith, c.requires), c.upper.ensures)
-
 pub over-requires : goal.over-requires
 over-requires c =
-    let pre : LnReady 33 c.ln_terms_to_16-o.result = ready 16 (lit≤ tt) (lit< tt) (q_half c.args.q c.requires) c.ln_terms_to_16-o.ensures in
+    let pre : LnReady 33 c.ln_terms-o.result = ready 16 (lit≤ tt) (lit< tt) (q_half c.args.q c.requires) c.ln_terms-o.ensures in
     (omega arith, omega (arith, pre.power-fits))
 
 pub overflow_add-result : goal.overflow_add-result
 overflow_add-result c =
-    let pre : LnReady 33 c.ln_terms_to_16-o.result = ready 16 (lit≤ tt) (lit< tt) (q_half c.args.q c.requires) c.ln_terms_to_16-o.ensures in
+    let pre : LnReady 33 c.ln_terms-o.result = ready 16 (lit≤ tt) (lit< tt) (q_half c.args.q c.requires) c.ln_terms-o.ensures in
     Fits-bits 64 tt (sum_fits _ _ _ _ pre.sum_fits pre.power-fits c.over.ensures)
 
 pub returns : goal.returns
-returns c = summed _ c.requires c.ln_terms_to_16-o.ensures c.over.ensures
+returns c = summed _ c.requires c.ln_terms-o.ensures c.over.ensures
