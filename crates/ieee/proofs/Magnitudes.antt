@@ -1,26 +1,21 @@
 -- What the tests of the small functions say of a value: each way through their code gives what the definition gives.
 use mathlib.Core.Path.{◌≡◌, refl, sym, ap, ◌∙◌, subst}
-use Prim.Native.Nat.{ℕ, zero, suc, ◌+◌, ◌*◌, ◌/◌, ◌%◌, ◌^◌, ◌≤◌, ◌<◌}
+use Prim.Native.Nat.{ℕ, zero, suc, ◌*◌, ◌<◌}
 use native.Mathlib.Nat.{zero-lt-suc, mul-pos}
 use native.Mathlib.Omega.{arith}
-use mathlib.Core.Bool.{Bool, true, false, not, ◌&&◌, ◌||◌, beq, cond, true≢false, false≢true}
+use mathlib.Core.Bool.{Bool, true, false, not, ◌&&◌, ◌||◌, beq, true≢false, false≢true}
 use lib.IntN.{ℤ, pos}
-use lib.Dec.{T, leb, ltb, eqb, lt→ltb, le→leb, eqb_refl}
-use lib.Arith.{lt→nleb}
-use lib.Ieee.{Float, nan, inf, fin, binary64, up, down, low, odd, sub, add, neg, div, lt, eq, fits, is_nan, of_fields, of_bits, to_bits}
+use lib.Dec.{T, ltb, eqb, lt→ltb, eqb_refl}
+use lib.Ieee.{Float, nan, inf, fin, binary64, up, down, sub, add, neg, lt, eq, fits, is_nan, of_bits}
 use lib.Ieee.Fits.{up_pos, down_pos, neg-fits}
-use lib.Ieee.Bits.{is_true, is_false, of_bits-to_bits}
-use lib.Ieee.Exact.{odd_sign}
+use lib.Ieee.Bits.{is_true, is_false}
 use Rattle.seq.specs.Choice.{pick}
 use Rattle.ieee.specs.Constants.{one, minus_one}
-use Rattle.ieee.specs.Units.{sign}
-use Rattle.ieee.specs.Magnitude.{abs_of, signum_of, above_of}
-use Rattle.ieee.proofs.Grid.{sign_of_value}
+use Rattle.ieee.specs.Magnitude.{abs_of, above_of}
 use Rattle.ieee.proofs.Signs.{nought, nought_is}
 use Rattle.ieee.proofs.Flat.{add_commutes, zero_times}
 use Rattle.ieee.proofs.Alikes.{fits_zero}
 use Rattle.ieee.proofs.Zeros.{plus_zero_lem}
-use Rattle.ieee.proofs.Division.{unit_is}
 
 -- ---- x == x
 same : (s : Bool) → beq s s ≡ true
@@ -97,58 +92,10 @@ abs_kept x h t = sym (ap (λ (b : Bool). pick b x (sub binary64 nought x)) (rw n
 pub abs_turned : (x : Float) → T (fits binary64 x) → lt (of_bits binary64 0) x ≡ false → sub binary64 (of_bits binary64 0) x ≡ abs_of x
 abs_turned x h t = rw nought_is (sym (ap (λ (b : Bool). pick b x (sub binary64 nought x)) (rw nought_is at t)) ∙ abs_law x h)
 
--- ---- the sign in the bit pattern
-fields_sign : (s : Bool) (x t : ℕ) → T (not (is_nan (of_fields binary64 s x t))) → sign (of_fields binary64 s x t) ≡ s
-unfolding of_fields is_nan
-fields_sign s zero t h = sign_of_value (odd 53 s t 0 (low binary64)) s (t * 2 ^ 0) (2 ^ low binary64) (odd_sign 53 s t 0 (low binary64))
-fields_sign s (suc x) t h = go (eqb (suc x) 2047) (eqb t 0) (odd 53 s (2 ^ 52 + t) x (low binary64))
-    (sign_of_value (odd 53 s (2 ^ 52 + t) x (low binary64)) s ((2 ^ 52 + t) * 2 ^ x) (2 ^ low binary64)
-    (odd_sign 53 s (2 ^ 52 + t) x (low binary64))) h
-  where
-    go : (a b : Bool) (v : Float) → sign v ≡ s → T (not (is_nan (cond a (cond b (inf s) nan) v))) → sign (cond a (cond b (inf s) nan) v) ≡ s
-    go true true v e h = refl
-    go true false v e h = absurd h
-    go false b v e h = e
-
-bits-sign : (b : ℕ) → T (not (is_nan (of_bits binary64 b))) → sign (of_bits binary64 b) ≡ leb (2 ^ 63) b
-unfolding of_bits
-bits-sign b h = fields_sign (leb (2 ^ 63) b) (b % 2 ^ 63 / 2 ^ 52) (b % 2 ^ 52) h
-
-pub sign_is : (x : Float) → T (fits binary64 x) → T (not (is_nan x)) → sign x ≡ leb (2 ^ 63) (to_bits binary64 x)
-sign_is x f h = ap sign (sym (of_bits-to_bits binary64 x f)) ∙ bits-sign (to_bits binary64 x)
-    (subst (λ (z : Float). T (not (is_nan z))) (sym (of_bits-to_bits binary64 x f)) h)
-
-signum_is : (x : Float) → T (not (is_nan x)) → signum_of x ≡ fin (sign x) 1 (pos 0)
-unfolding is_nan
-signum_is nan h = absurd h
-signum_is (inf s) h = refl
-signum_is (fin s m e) h = refl
-
 -- -1.0 as the code has it
 pub minus_one_lem : neg one ≡ minus_one
 unfolding of_bits neg
 minus_one_lem = refl
-
-minus-one-sign : neg (of_bits binary64 0x3ff0_0000_0000_0000) ≡ fin true 1 (pos 0)
-unfolding of_bits neg
-minus-one-sign = refl
-
-pub signum_plus : (x : Float) → T (fits binary64 x) → eq x x ≡ true → to_bits binary64 x < 2 ^ 63 → of_bits binary64 0x3ff0_0000_0000_0000 ≡ signum_of x
-signum_plus x f h l =
-    let n = no_nan_self x h in
-    unit_is ∙ ap (λ (s : Bool). fin s 1 (pos 0))
-    (sym (sign_is x f n ∙ is_false (leb (2 ^ 63) (to_bits binary64 x)) (lt→nleb (2 ^ 63) (to_bits binary64 x) l))) ∙ sym
-    (signum_is x n)
-
-pub signum_minus : (x : Float) → T (fits binary64 x) → eq x x ≡ true → 2 ^ 63 ≤ to_bits binary64 x → neg (of_bits binary64 0x3ff0_0000_0000_0000) ≡ signum_of x
-signum_minus x f h l =
-    let n = no_nan_self x h in
-    minus-one-sign ∙ ap (λ (s : Bool). fin s 1 (pos 0))
-    (sym (sign_is x f n ∙ is_true (leb (2 ^ 63) (to_bits binary64 x)) (le→leb (2 ^ 63) (to_bits binary64 x) l))) ∙ sym
-    (signum_is x n)
-
-pub signum_nan : (x : Float) → eq x x ≡ false → x ≡ signum_of x
-signum_nan x h = rw (nan_self x h)
 
 -- ---- the order by magnitude
 pub above_number : (a b : Float) → eq a a ≡ true → lt (abs_of b) (abs_of a) ≡ above_of a b
@@ -160,8 +107,3 @@ above_number (fin s m e) b h = refl
 pub above-nan : (a b : Float) → eq a a ≡ false → eq b b ≡ above_of a b
 unfolding above_of
 above-nan a b h = rw (nan_self a h) (number_self b)
-
--- ---- 1.0 / 0.0
-pub infinity_is : div binary64 (of_bits binary64 0x3ff0_0000_0000_0000) (of_bits binary64 0) ≡ inf false
-unfolding div of_bits
-infinity_is = refl

@@ -2,19 +2,12 @@
 use mathlib.Core.Path.{◌≡◌, refl, sym, ap, ◌∙◌, subst}
 use mathlib.Core.Bool.{Bool, true, false, not, ◌&&◌}
 use lib.Dec.{T, ltb, ltb→lt, lt→ltb}
-use lib.Ieee.{Float, nan, inf, fin, Format, lt, fits}
+use lib.Ieee.{Float, Format, lt, fits}
 use lib.Ieee.Fits.{and_l, and_r}
 use lib.Ieee.Scale.{finite}
-use Rattle.ieee.specs.Magnitude.{abs_of}
 use Rattle.ieee.specs.Units.{sign, mag}
 use Rattle.ieee.proofs.Ops.{Finite, Positive, finite_number}
 use Rattle.ieee.proofs.Signs.{above_is, nought}
-
-pub finite_test : (x : Float) → lt (abs_of x) (inf false) ≡ finite x
-unfolding lt
-finite_test nan = refl
-finite_test (inf s) = refl
-finite_test (fin s m e) = refl
 
 pub positive_of_tests : {f : Format} {x : Float} → T (fits f x) → T (finite x) → T (lt nought x) → Positive f x
 positive_of_tests {f} {x} h t u =

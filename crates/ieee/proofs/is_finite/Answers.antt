@@ -1,9 +1,15 @@
--- `ieee::is_finite` meets its contract: a finite value's magnitude, and no other, is below the infinity.
-use mathlib.Core.Path.{◌∙◌}
-use lib.Ieee.{lt}
-use Rattle.ieee.proofs.Magnitudes.{infinity_is}
-use Rattle.ieee.proofs.Tests.{finite_test}
+-- `ieee::is_finite` meets its contract: the library's test is the one that is meant.
+use mathlib.Core.Path.{◌≡◌, refl, ◌∙◌}
+use lib.Ieee.{Float, nan, inf, fin}
+use lib.Ieee.Scale.{finite}
+use Rattle.std.specs.Float.{float_is_finite}
 use Rattle.ieee.proofs.is_finite.Goals as goal
 
+same : (x : Float) → float_is_finite x ≡ finite x
+unfolding float_is_finite
+same nan = refl
+same (inf s) = refl
+same (fin s m e) = refl
+
 pub returns : goal.returns
-returns c = (λ i. lt (c.abs.ensures i) (infinity_is i)) ∙ finite_test c.args.x
+returns c = c.is_finite.ensures.value ∙ same c.args.x

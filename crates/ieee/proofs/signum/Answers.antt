@@ -1,18 +1,15 @@
--- `ieee::signum` meets its contract: the sign is the highest bit of the pattern.
-use mathlib.Core.Path.{sym, subst}
-use native.Mathlib.Omega.{arith}
-use lib.Dec.{T}
-use Rattle.ieee.proofs.Magnitudes.{no_nan_self, signum_plus, signum_minus, signum_nan}
+-- `ieee::signum` meets its contract: the library's sign is the one that is meant.
+use mathlib.Core.Path.{◌≡◌, refl, ◌∙◌}
+use lib.Ieee.{Float, nan, inf, fin}
+use Rattle.std.specs.Float.{float_signum}
+use Rattle.ieee.specs.Magnitude.{signum_of}
 use Rattle.ieee.proofs.signum.Goals as goal
 
-pub float_to_bits-x : goal.float_to_bits-x
-float_to_bits-x c = no_nan_self _ c.if-x.true
+same : (x : Float) → float_signum x ≡ signum_of x
+unfolding float_signum
+same nan = refl
+same (inf s) = refl
+same (fin s m e) = refl
 
-pub returns-then-x-lt9223372036854775808 : goal.returns-then-x-lt9223372036854775808
-returns-then-x-lt9223372036854775808 c = signum_plus _ (subst T (sym c.well_formed.0.1) tt) c.if-x.true c.if-x-lt9223372036854775808.true
-
-pub returns-else-x-lt9223372036854775808 : goal.returns-else-x-lt9223372036854775808
-returns-else-x-lt9223372036854775808 c = signum_minus _ (subst T (sym c.well_formed.0.1) tt) c.if-x.true (omega arith)
-
-pub returns-else-x : goal.returns-else-x
-returns-else-x c = signum_nan _ c.if-x.false
+pub returns : goal.returns
+returns c = c.signum.ensures ∙ same c.args.x
