@@ -15,8 +15,7 @@ fn digit_by_digit(m: u64) -> u64
     let mut rest = m;
     let mut q: u64 = 0;
     let mut rem: u64 = 0;
-    let mut i: u64 = 0;
-    while i < 54 {
+    for turn in 0..54usize {
         let r = 4 * rem + rest / 4503599627370496;
         rest = 4 * (rest % 4503599627370496);
         if 4 * q + 1 <= r {
@@ -26,7 +25,6 @@ fn digit_by_digit(m: u64) -> u64
             rem = r;
             q = 2 * q;
         }
-        i += 1;
     }
     q
 }

@@ -21,15 +21,13 @@ pub fn scratch_short(m: usize, n: usize, numbers: usize, indices: usize) -> bool
     numbers < m * (n + 1) + m * m + 16 * m + 8 * (n + 1) || indices < 8 * (m + n + 1)
 }
 
-// Whether every entry is at most so large in magnitude; a NaN is not.
+// Whether every entry is at most so large in magnitude; a NaN is not. No entry ends the loop, so that many are compared at a time.
 pub fn all_bounded(matrix: &[f64], most: f64) -> bool
     ensures { result ≡ bounded most matrix.now }
 {
     let mut ok = true;
-    let mut i = 0usize;
-    while i < matrix.len() {
-        ok = ok & (abs(matrix[i]) <= most);
-        i += 1;
+    for x in matrix {
+        ok &= abs(*x) <= most;
     }
     ok
 }
@@ -39,10 +37,8 @@ pub fn all_finite(v: &[f64]) -> bool
     ensures { result ≡ all_finite v.now }
 {
     let mut ok = true;
-    let mut i = 0usize;
-    while i < v.len() {
-        ok = ok & is_finite(v[i]);
-        i += 1;
+    for x in v {
+        ok &= is_finite(*x);
     }
     ok
 }

@@ -12,7 +12,7 @@ ghost use Rattle.root.specs.Inner.{Normal};
 use digits::digits;
 
 // m * 2^j
-#[derive(Drop)]
+#[derive(Clone, Copy)]
 struct Spread {
     m: u64,
     j: u64,
@@ -29,7 +29,7 @@ fn normal(t: u64, k: u64) -> Spread
         m = 2 * m;
         j = j - 1;
     }
-    Spread { m: m, j: j }
+    Spread { m, j }
 }
 
 // The bit pattern of the root of t * 2^k times the smallest positive value.

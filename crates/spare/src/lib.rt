@@ -5,8 +5,6 @@ ghost use Rattle.std.specs.Prelude.{◌≡◌, ◌≤◌, ◌<◌, ◌+◌, ◌*
 ghost use Rattle.seq.specs.Keep.{all_to};
 ghost use Rattle.limits.specs.Votes.{bit_at, bytes_of, spare_clear};
 
-use limits::wide;
-
 // Bit j of a byte.
 pub fn bit(byte: usize, j: usize) -> usize
     requires { j < 8 }
@@ -21,11 +19,9 @@ fn clear_from(bits: &[u8], from: usize, k: usize) -> bool
     ensures { result ≡ all_to (λ i. not (bit_at bits.now (from + i))) k }
 {
     let mut ok = true;
-    let mut i = 0usize;
-    while i < k {
+    for i in 0..k {
         let at = from + i;
-        ok = ok & (bit(wide(bits[at / 8]), at % 8) == 0);
-        i += 1;
+        ok &= bit(usize::from(bits[at / 8]), at % 8) == 0;
     }
     ok
 }
@@ -38,11 +34,9 @@ pub fn spare_clear(bits: &[u8], m: usize, n: usize) -> bool
     let b = (n + 7) / 8;
     let k = 8 * b - n;
     let mut ok = true;
-    let mut j = 0usize;
-    while j < m {
+    for j in 0..m {
         let from = 8 * (j * b) + n;
-        ok = ok & clear_from(bits, from, k);
-        j += 1;
+        ok &= clear_from(bits, from, k);
     }
     ok
 }

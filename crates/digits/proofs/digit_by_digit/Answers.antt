@@ -36,34 +36,34 @@ last m rest q rem i a h =
     let t : m * 4 ^ 54 ≡ (q * q + rem) * 2 ^ 54 + rest = rw e at a.taken in
     omega arith
 
-pub loop-i-init : goal.loop-i-init
-loop-i-init c = first c.args.m c.requires
+pub loop-turn-init : goal.loop-turn-init
+loop-turn-init c = first c.args.m c.requires
 
 pub overflow_mul-r : goal.overflow_mul-r
-overflow_mul-r c = omega (arith, small c.loop-i.i c.loop-i.q (omega arith) c.loop-i.invariant.short)
+overflow_mul-r c = omega (arith, small c.loop-turn.turn c.loop-turn.q (omega arith) c.loop-turn.invariant.short)
 
 pub overflow_add-r : goal.overflow_add-r
-overflow_add-r c = omega (arith, small c.loop-i.i c.loop-i.q (omega arith) c.loop-i.invariant.short)
+overflow_add-r c = omega (arith, small c.loop-turn.turn c.loop-turn.q (omega arith) c.loop-turn.invariant.short)
 
 pub overflow_mul-q : goal.overflow_mul-q
-overflow_mul-q c = omega (arith, small c.loop-i.i c.loop-i.q (omega arith) c.loop-i.invariant.short)
+overflow_mul-q c = omega (arith, small c.loop-turn.turn c.loop-turn.q (omega arith) c.loop-turn.invariant.short)
 
 pub overflow_add-q : goal.overflow_add-q
-overflow_add-q c = omega (arith, small c.loop-i.i c.loop-i.q (omega arith) c.loop-i.invariant.short)
+overflow_add-q c = omega (arith, small c.loop-turn.turn c.loop-turn.q (omega arith) c.loop-turn.invariant.short)
 
 pub overflow_mul-rem : goal.overflow_mul-rem
-overflow_mul-rem c = omega (arith, small c.loop-i.i c.loop-i.q (omega arith) c.loop-i.invariant.short)
+overflow_mul-rem c = omega (arith, small c.loop-turn.turn c.loop-turn.q (omega arith) c.loop-turn.invariant.short)
 
 pub overflow_add-rem : goal.overflow_add-rem
-overflow_add-rem c = omega (arith, small c.loop-i.i c.loop-i.q (omega arith) c.loop-i.invariant.short)
+overflow_add-rem c = omega (arith, small c.loop-turn.turn c.loop-turn.q (omega arith) c.loop-turn.invariant.short)
 
-pub loop-i-preserved : goal.loop-i-preserved
-loop-i-preserved c =
-    let inv = c.loop-i.invariant in
+pub loop-turn-preserved : goal.loop-turn-preserved
+loop-turn-preserved c =
+    let inv = c.loop-turn.invariant in
     elim c.if-q-r.branch [
       | then-q-r w ↦ rw (w.q-is, w.rem-is) (one_turn _ _ _ _ _ inv (omega arith) w.if-q-r.true)
       | else-q-r w ↦ rw (w.q-is, w.rem-is) (zero_turn _ _ _ _ _ inv (omega arith) w.if-q-r.false)
     ]
 
 pub returns : goal.returns
-returns c = last _ _ _ _ _ c.loop-i.invariant (omega arith)
+returns c = last _ _ _ _ _ c.loop-turn.invariant (omega arith)

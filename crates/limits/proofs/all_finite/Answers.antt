@@ -6,15 +6,15 @@ use native.Mathlib.Numerals.{add-one}
 use lib.ListN.{length}
 use Rattle.limits.proofs.all_finite.Goals as goal
 
-pub loop-i-init : goal.loop-i-init
+pub loop-x-init : goal.loop-x-init
 unfolding all_to
-loop-i-init c = (omega arith, refl)
+loop-x-init c = refl
 
-pub loop-i-preserved : goal.loop-i-preserved
+pub loop-x-preserved : goal.loop-x-preserved
 unfolding all_to
-loop-i-preserved c = (omega arith, rw (add-one, c.loop-i.invariant.1, c.is_finite-ok.ensures))
+loop-x-preserved c = rw (add-one, c.loop-x.invariant, c.is_finite-ok.ensures) refl
 
 pub returns : goal.returns
 returns c =
-    let done : c.loop-i.i ≡ length c.args.v.now = omega arith in
-    rw (← done) c.loop-i.invariant.1
+    let done : c.loop-x.x-index ≡ length c.args.v.now = omega arith in
+    rw (← done) c.loop-x.invariant

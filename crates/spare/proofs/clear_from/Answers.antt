@@ -8,23 +8,20 @@ use Rattle.spare.proofs.clear_from.Goals as goal
 
 pub loop-i-init : goal.loop-i-init
 unfolding all_to
-loop-i-init c = (omega arith, refl)
+loop-i-init c = refl
 
 pub loop-i-preserved : goal.loop-i-preserved
 unfolding all_to
-loop-i-preserved c = (
-  omega arith,
-  rw (
-    add-one,
-    c.loop-i.invariant.1,
-    clear_bit c.bit.result
-        (omega (arith, c.bit.ensures)),
-    c.bit.ensures,
-    c.wide.ensures,
-  ) refl,
-)
+loop-i-preserved c = rw (
+  add-one,
+  c.loop-i.invariant,
+  clear_bit c.bit.result
+      (omega (arith, c.bit.ensures)),
+  c.bit.ensures,
+  c.from.ensures,
+) refl
 
 pub returns : goal.returns
 returns c =
     let done : c.loop-i.i ≡ c.args.k = omega arith in
-    rw (← done) c.loop-i.invariant.1
+    rw (← done) c.loop-i.invariant

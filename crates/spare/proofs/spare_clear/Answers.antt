@@ -9,7 +9,7 @@ use Rattle.spare.proofs.spare_clear.Goals as goal
 
 pub loop-j-init : goal.loop-j-init
 unfolding all_to
-loop-j-init c = (omega arith, refl)
+loop-j-init c = refl
 
 pub overflow_mul-from : goal.overflow_mul-from
 overflow_mul-from c =
@@ -37,10 +37,10 @@ clear_from-ok-requires c =
 
 pub loop-j-preserved : goal.loop-j-preserved
 unfolding all_to
-loop-j-preserved c = (omega arith, rw (add-one, c.loop-j.invariant.1, c.clear_from-ok.ensures) refl)
+loop-j-preserved c = rw (add-one, c.loop-j.invariant, c.clear_from-ok.ensures) refl
 
 pub returns : goal.returns
 unfolding spare_clear
 returns c =
     let done : c.loop-j.j ≡ c.args.m = omega arith in
-    rw (← done) c.loop-j.invariant.1
+    rw (← done) c.loop-j.invariant
