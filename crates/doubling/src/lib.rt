@@ -12,14 +12,11 @@ pub fn remaining_into(out: &mut [u32], rest: &[u32], w: &[f64]) -> usize
     ensures { Pushed (remaining w.now rest.now) result out.new }
 {
     let mut k = 0usize;
-    let mut p = 0usize;
-    while p < rest.len() {
-        let j = rest[p];
-        if w[j as usize] != 0.0 {
-            out[k] = j;
+    for j in rest {
+        if w[*j as usize] != 0.0 {
+            out[k] = *j;
             k += 1;
         }
-        p += 1;
     }
     k
 }
@@ -29,11 +26,8 @@ pub fn scales_into(scale: &mut [f64], w: &[f64], omega: f64, rest: &[u32])
     requires { (length scale.old ≡ length rest.now) × Below rest.now (length w.now) }
     ensures { scale.new ≡ tabulate (scale_at w.now omega rest.now) (length rest.now) }
 {
-    let mut p = 0usize;
-    while p < rest.len() {
-        let j = rest[p] as usize;
-        scale[p] = w[j] / omega;
-        p += 1;
+    for (p, j) in rest.iter().enumerate() {
+        scale[p] = w[*j as usize] / omega;
     }
 }
 
@@ -42,14 +36,7 @@ pub fn sigma_of(x: &[f64]) -> f64
     requires { length x.now ≤ 256 }
     ensures { result ≡ sigma_of x.now }
 {
-    let mut plus = 0usize;
-    let mut p = 0usize;
-    while p < x.len() {
-        if x[p] > 0.0 {
-            plus += 1;
-        }
-        p += 1;
-    }
+    let plus = x.iter().filter(|c| **c > 0.0).count();
     if 2 * plus <= x.len() { 1.0 } else { -1.0 }
 }
 
@@ -58,14 +45,8 @@ pub fn double_or_zero(w: &mut [f64], rest: &[u32], x: &[f64], sigma: f64)
     requires { (length x.now ≡ length rest.now) × Below rest.now (length w.old) }
     ensures { w.new ≡ halved_to w.old rest.now x.now sigma (length rest.now) }
 {
-    let mut p = 0usize;
-    while p < rest.len() {
-        let j = rest[p] as usize;
-        if x[p] == sigma {
-            w[j] = 2.0 * w[j];
-        } else {
-            w[j] = 0.0;
-        }
-        p += 1;
+    for (j, c) in rest.iter().zip(x) {
+        let j = *j as usize;
+        w[j] = if *c == sigma { 2.0 * w[j] } else { 0.0 };
     }
 }

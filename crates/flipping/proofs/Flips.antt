@@ -7,6 +7,8 @@ use native.Mathlib.Omega.{arith}
 use native.Mathlib.Numerals.{add-one}
 use lib.ListN.{length, set}
 use lib.Ieee.{Float, binary64, mul, neg, lt}
+use Rattle.std.specs.Prelude.{Option, Some, None}
+use Rattle.std.specs.Option.{unwrap_or, option_or}
 use Rattle.seq.specs.Choice.{pick}
 use Rattle.seq.specs.Lists.{tabulate}
 use Rattle.seq.specs.Sums.{at}
@@ -15,29 +17,31 @@ use Rattle.ieee.specs.Magnitude.{max_abs_to}
 use Rattle.columns.specs.Kernels.{less_column}
 use Rattle.ieee.specs.Constants.{two}
 use Rattle.flipping.specs.Search.{Searched, improvement, Search, improves, flipped, sweep_to, swept_of, search_to, searched}
-use Rattle.flipping.specs.Searching.{search_of, Tried, Swept, searched_in}
-use Rattle.flipping.specs.declared.Found.{Found}
+use Rattle.flipping.specs.Searching.{unswept, search_of, Tried, Swept, searched_in}
 
 -- ---- one column
 
-module _ (column : ℕ → Float) (j : ℕ) (x ax : List Float) (from : Found) (below : Bool)
-    (is : below ≡ lt (max_abs_to (less_column column (mul binary64 two (at x j)) ax) (length ax)) (mul binary64 from.best improvement)) where
-  pub left_alone : below ≡ false → Tried column j (search_of x ax from) (search_of x ax from)
+module _ (column : ℕ → Float) (j : ℕ) (x ax : List Float) (best : Float) (below : Bool)
+    (is : below ≡ lt (max_abs_to (less_column column (mul binary64 two (at x j)) ax) (length ax)) (mul binary64 best improvement)) where
+  pub left_alone : below ≡ false → Tried column j (unswept x ax best) x ax None
   unfolding improves
-  left_alone e = record { is = rw (sym is ∙ e) }
+  left_alone e = record { is = (sym is ∙ e, refl, refl) }
 
-  pub turned-over : (ax' : List Float) (best : Float) → below ≡ true
-      → ax' ≡ tabulate (less_column column (mul binary64 two (at x j)) ax) (length ax) → best ≡ max_abs_of ax'
-      → Tried column j (search_of x ax from) (search_of (set x j (neg (at x j))) ax' (record { best = best; improved = true }))
+  pub turned-over : (ax' : List Float) (lower : Float) → below ≡ true
+      → ax' ≡ tabulate (less_column column (mul binary64 two (at x j)) ax) (length ax) → lower ≡ max_abs_of ax'
+      → Tried column j (unswept x ax best) (set x j (neg (at x j))) ax' (Some lower)
   unfolding improves flipped
-  turned-over ax' best e f g = record { is = rw (sym is ∙ e, g, f) }
+  turned-over ax' lower e f g = record { is = (sym is ∙ e, rw (g, f)) }
 
 -- ---- a sweep
 
--- one column more
-pub sweep_turn : (a : ℕ → ℕ → Float) (from s t : Search) (j : ℕ) → s ≡ sweep_to a from j → Tried (a j) j s t → t ≡ sweep_to a from (j + 1)
-unfolding sweep_to
-sweep_turn a from s t j e r = r.is ∙ rw (add-one j, e)
+-- one column more, where the flips before it answered f
+pub sweep_turn : (a : ℕ → ℕ → Float) (from : Search) (x ax x' ax' : List Float) (best : Float) (f r : Option Float) (j : ℕ)
+    → search_of x ax best f ≡ sweep_to a from j → Tried (a j) j (unswept x ax (unwrap_or f best)) x' ax' r
+    → search_of x' ax' best (option_or r f) ≡ sweep_to a from (j + 1)
+unfolding sweep_to improves flipped
+sweep_turn a from x ax x' ax' best f None j e t = rw (add-one j, ← e, t.is.0, t.is.1, t.is.2)
+sweep_turn a from x ax x' ax' best f (Some lower) j e t = rw (add-one j, ← e, t.is.0) t.is.1
 
 -- ---- the sweeps
 

@@ -13,7 +13,7 @@ pub fn pack(columns: &mut [u32], kept: &mut [f64], w: &[f64])
     requires { (length columns.old ≡ length w.now) × (length kept.old ≡ length w.now) × (length w.now ≤ 256) }
     ensures { Packed w.now columns.new kept.new }
 {
-    let s = support_into(&mut columns[..], w);
+    let s = support_into(columns, w);
     fill(&mut columns[s..], 0);
     choose(&mut kept[..s], w, &columns[..s]);
     fill(&mut kept[s..], 0.0);

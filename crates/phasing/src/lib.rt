@@ -9,7 +9,7 @@ ghost use Rattle.blocking.specs.Held.{Roomy};
 ghost use Rattle.phased.specs.Phasing.{RoomAtPlaces, RoomForAll, PhasedAt, OnePhase};
 
 use draw::SplitMix64;
-use places::{choose, choose_words, free_places, put_back, put_back_words, round_free};
+use places::{choose, free_places, put_back, round_free};
 use seq::fill;
 use walk::phase;
 use walked::Phased;
@@ -40,7 +40,7 @@ fn phase_on(
         (length blocked.old) places.now rng numbers.old x.old
         free.old result numbers.new x.new free.new }
 {
-    choose_words(&mut subcols[..], cols, places);
+    choose(&mut subcols[..], cols, places);
     choose(&mut subscale[..], scale, places);
     choose(&mut subx[..], &x[..], places);
     let p = phase(
@@ -57,7 +57,7 @@ fn phase_on(
         g,
     );
     put_back(x, places, &subx[..]);
-    put_back_words(free, places, &subfree[..]);
+    put_back(free, places, &subfree[..]);
     p
 }
 

@@ -9,6 +9,7 @@ use native.Mathlib.Numerals.{add-one}
 use native.Mathlib.Decide.{dec_lt}
 use lib.ListN.{length, get_or, set, length-set, length-append, get_or-append}
 use lib.Seq.{get_or-set_same, get_or-set_other, get_or_at}
+use Rattle.std.proofs.lemmas.List.{get_or_default, get_or_past}
 use Rattle.seq.specs.Choice.{pick}
 use Rattle.seq.specs.Keep.{keep, count}
 use Rattle.seq.proofs.Keeping.{length-keep}
@@ -21,15 +22,11 @@ off e = let z : ◌≡◌ {A = ℕ} 0 1 = cc in omega arith
 module _ {A : Type 0} where
   -- within a list the default is not read
   pub get_d_any : (xs : List A) (i : ℕ) (y z : A) → i < length xs → get_or xs i y ≡ get_or xs i z
-  get_d_any [] i y z h = absurd (omega arith)
-  get_d_any (x ∷ xs) zero y z h = refl
-  get_d_any (x ∷ xs) (suc i) y z h = get_d_any xs i y z (omega arith)
+  get_d_any = get_or_default
 
   -- past its end it is
   pub get_or_out : (xs : List A) (i : ℕ) (z : A) → length xs ≤ i → get_or xs i z ≡ z
-  get_or_out [] i z h = refl
-  get_or_out (x ∷ xs) zero z h = absurd (omega arith)
-  get_or_out (x ∷ xs) (suc i) z h = get_or_out xs i z (omega arith)
+  get_or_out = get_or_past
 
   pub length-put_back : (d : A) (places : List ℕ) (values v : List A) (k : ℕ) → length (put_back d places values v k) ≡ length v
   unfolding put_back

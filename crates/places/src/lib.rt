@@ -3,11 +3,10 @@
 
 ghost use Rattle.std.specs.Prelude.{◌≡◌, ◌≤◌, length};
 ghost use Rattle.seq.specs.Lists.{tabulate};
-ghost use Rattle.seq.specs.Sums.{plus_zero};
 ghost use Rattle.seq.specs.Keep.{keep};
 ghost use Rattle.seq.specs.Indices.{Pushed, Below};
 ghost use Rattle.seq.specs.Marks.{is_set};
-ghost use Rattle.places.specs.Places.{words_at, chosen, put_back, rounded_at};
+ghost use Rattle.places.specs.Places.{picked, put_back, rounded_at};
 
 // The places of the marks that are set, in order, at the front of places; how many.
 pub fn free_places(places: &mut [u32], free: &[u32]) -> usize
@@ -15,66 +14,33 @@ pub fn free_places(places: &mut [u32], free: &[u32]) -> usize
     ensures { Pushed (keep (is_set free.now) (length free.now)) result places.new }
 {
     let mut l = 0usize;
-    let mut j = 0usize;
-    while j < free.len() {
-        if free[j] == 1 {
+    for (j, mark) in free.iter().enumerate() {
+        if *mark == 1 {
             places[l] = j as u32;
             l += 1;
         }
-        j += 1;
     }
     l
 }
 
 // The elements of v at some places.
-pub fn choose(to: &mut [f64], v: &[f64], places: &[u32])
+pub fn choose<T: Copy>(to: &mut [T], v: &[T], places: &[u32])
     requires { (length to.old ≡ length places.now) × Below places.now (length v.now) }
-    ensures { to.new ≡ chosen v.now places.now }
+    ensures { (d : T) → to.new ≡ picked d v.now places.now }
 {
-    let mut p = 0usize;
-    while p < places.len() {
-        let j = places[p] as usize;
-        to[p] = v[j];
-        p += 1;
-    }
-}
-
-pub fn choose_words(to: &mut [u32], v: &[u32], places: &[u32])
-    requires { (length to.old ≡ length places.now) × Below places.now (length v.now) }
-    ensures { to.new ≡ words_at v.now places.now }
-{
-    let mut p = 0usize;
-    while p < places.len() {
-        let j = places[p] as usize;
-        to[p] = v[j];
-        p += 1;
+    for (p, j) in places.iter().enumerate() {
+        to[p] = v[*j as usize];
     }
 }
 
 // The elements put back at their places.
-pub fn put_back(v: &mut [f64], places: &[u32], values: &[f64])
+pub fn put_back<T: Copy>(v: &mut [T], places: &[u32], values: &[T])
     requires { (length values.now ≡ length places.now) × Below places.now (length v.old) }
-    ensures { v.new ≡ put_back plus_zero places.now values.now v.old
-        (length places.now) }
+    ensures { (d : T) → v.new ≡ put_back d places.now values.now v.old (length places.now) }
 {
-    let mut p = 0usize;
-    while p < places.len() {
-        let j = places[p] as usize;
-        v[j] = values[p];
-        p += 1;
-    }
-}
-
-pub fn put_back_words(v: &mut [u32], places: &[u32], values: &[u32])
-    requires { (length values.now ≡ length places.now) × Below places.now (length v.old) }
-    ensures { v.new ≡ put_back 0 places.now values.now v.old
-        (length places.now) }
-{
-    let mut p = 0usize;
-    while p < places.len() {
-        let j = places[p] as usize;
-        v[j] = values[p];
-        p += 1;
+    for (j, value) in places.iter().zip(values) {
+        let j = *j as usize;
+        v[j] = *value;
     }
 }
 
@@ -83,15 +49,9 @@ pub fn round_free(x: &mut [f64], free: &[u32])
     requires { length free.now ≡ length x.old }
     ensures { x.new ≡ tabulate (rounded_at x.old free.now) (length x.old) }
 {
-    let mut p = 0usize;
-    while p < x.len() {
+    for (p, c) in x.iter_mut().enumerate() {
         if free[p] == 1 {
-            if x[p] >= 0.0 {
-                x[p] = 1.0;
-            } else {
-                x[p] = -1.0;
-            }
+            *c = if *c >= 0.0 { 1.0 } else { -1.0 };
         }
-        p += 1;
     }
 }

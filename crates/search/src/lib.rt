@@ -7,10 +7,10 @@ ghost use Rattle.chosen.specs.Entries.{entry_of};
 ghost use Rattle.chosen.specs.ChosenColumns.{Chosen};
 ghost use Rattle.flipping.specs.Searching.{Swept, search_of, searched_in};
 
-use flipping::{Found, try_flip};
+use flipping::try_flip;
 use linear::max_abs;
 
-// Tries every coordinate in order.
+// Tries every coordinate in order; the largest magnitude after the last flip, where there was one.
 fn sweep(
     ax: &mut [f64],
     x: &mut [f64],
@@ -20,22 +20,17 @@ fn sweep(
     n: usize,
     cols: &[u32],
     scale: &[f64],
-) -> Found
+) -> Option<f64>
     requires { Chosen matrix.now bits.now n cols.now scale.now (length ax.old) × (length x.old ≡ length cols.now) }
     ensures { Swept (entry_of matrix.now bits.now n cols.now scale.now)
-        (length cols.now) x.old ax.old best (search_of x.new ax.new result) }
+        (length cols.now) x.old ax.old best (search_of x.new ax.new best result) }
 {
-    let mut at = Found {
-        best,
-        improved: false,
-    };
-    let mut j = 0usize;
-    while j < cols.len() {
-        let next = try_flip(ax, x, j, at, matrix, bits, n, cols, scale);
-        at = next;
-        j += 1;
+    let mut found = None;
+    for j in 0..cols.len() {
+        let lowest = found.unwrap_or(best);
+        found = try_flip(ax, x, j, lowest, matrix, bits, n, cols, scale).or(found);
     }
-    at
+    found
 }
 
 // At most 100 sweeps: one that flips nothing is the last. How many there were, the last one too.
@@ -54,15 +49,11 @@ pub fn local_search(
         (length cols.now) x.old ax.old }
 {
     let mut best = max_abs(&ax[..]);
-    let mut k = 0usize;
-    while k < 100 {
-        let r = sweep(ax, x, best, matrix, bits, n, cols, scale);
-        best = r.best;
-        let swept = k + 1;
-        if !r.improved {
-            return swept;
-        }
-        k = swept;
+    for made in 1..=100 {
+        let Some(lower) = sweep(ax, x, best, matrix, bits, n, cols, scale) else {
+            return made;
+        };
+        best = lower;
     }
-    k
+    100
 }

@@ -1,48 +1,41 @@
--- `doubling::double_or_zero` meets its contract: after p turns the weights are halved at the first p of the indices.
+-- `doubling::double_or_zero` meets its contract: after some turns the weights are halved at the first of the indices.
+use Prim.Native.Nat.{◌+◌}
 use mathlib.Core.Path.{◌≡◌, refl}
+use mathlib.Core.List.{[], ◌∷◌, ◌++◌}
 use native.Mathlib.Omega.{arith}
-use lib.ListN.{length, length-set}
+use lib.Ieee.{nan}
+use lib.ListN.{length, length-append}
+use Rattle.std.proofs.Common.{rules}
+use Rattle.std.proofs.lemmas.Slice.Zip.{zip_turn, zip_end}
 use Rattle.doubling.specs.Doubling.{halved_to}
 use Rattle.doubling.proofs.Turns.{doubles, zeroes}
 use Rattle.doubling.proofs.double_or_zero.Goals as goal
-use Rattle.doubling.proofs.double_or_zero.Goals.{then-x-p, else-x-p}
+use Rattle.doubling.proofs.double_or_zero.Goals.{then-c-sigma, else-c-sigma}
 
-pub loop-p-init : goal.loop-p-init
+pub loop-j-init : goal.loop-j-init
 unfolding halved_to
-loop-p-init c = (refl, omega arith, refl)
+loop-j-init c = refl
 
-pub overflow_cast-j : goal.overflow_cast-j
-overflow_cast-j c = omega (arith, c.type_inv.rest c.loop-p.p)
-
-pub offset_bounds-w-j : goal.offset_bounds-w-j
-offset_bounds-w-j c = omega (arith, c.type_inv.rest c.loop-p.p)
-
-pub bounds-w-j : goal.bounds-w-j
-bounds-w-j c = omega (arith, c.requires.1.below _ c.loop-p-test.true)
-
-pub offset_bounds-w-j-then-x-p : goal.offset_bounds-w-j-then-x-p
-offset_bounds-w-j-then-x-p c = omega (arith, c.type_inv.rest c.loop-p.p)
-
-pub bounds-w-j-then-x-p : goal.bounds-w-j-then-x-p
-bounds-w-j-then-x-p c = omega (arith, c.requires.1.below _ c.loop-p-test.true)
-
-pub offset_bounds-w-j-else-x-p : goal.offset_bounds-w-j-else-x-p
-offset_bounds-w-j-else-x-p c = omega (arith, c.type_inv.rest c.loop-p.p)
-
-pub bounds-w-j-else-x-p : goal.bounds-w-j-else-x-p
-bounds-w-j-else-x-p c = omega (arith, c.requires.1.below _ c.loop-p-test.true)
-
-pub loop-p-preserved : goal.loop-p-preserved
-loop-p-preserved c =
-    let v = c.loop-p.invariant in
-    let p = c.loop-p.p in
+pub loop-j-preserved : goal.loop-j-preserved
+loop-j-preserved c =
     let a = c.args in
-    elim c.if-x-p.branch [
-      | then-x-p t ↦ rw t.w-is (rw (doubles a.w.now a.rest.now a.x.now a.sigma p t.if-x-p.true, ← v.0), omega arith, simp length-set v.2)
-      | else-x-p t ↦ rw t.w-is (rw (zeroes a.w.now a.rest.now a.x.now a.sigma p t.if-x-p.false, ← v.0), omega arith, simp length-set v.2)
+    let l = c.loop-j in
+    let p = length l.yielded in
+    let here = zip_turn a.rest.now a.x.now l.yielded c.into_iter-j-iterator.result l.j-iterator c.next.new.self c.next.result
+    (search rules) (search rules) l.yielded_by (c.in-Some.j, c.in-Some.c) c.in-Some.is c.next.ensures.steps in
+    let more : length (l.yielded ++ ((c.in-Some.j, c.in-Some.c) ∷ [])) ≡ p + 1 = length-append l.yielded _ in
+    elim c.if-c-sigma.branch [
+      | then-c-sigma w ↦
+          rw (w.w-is, more, here.2 0, doubles a.w.now a.rest.now a.x.now a.sigma p (rw (here.3 nan) at w.if-c-sigma.true), ← l.invariant)
+      | else-c-sigma w ↦
+          rw (w.w-is, more, here.2 0, zeroes a.w.now a.rest.now a.x.now a.sigma p (rw (here.3 nan) at w.if-c-sigma.false), ← l.invariant)
     ]
 
 pub returns : goal.returns
 returns c =
-    let done : c.loop-p.p ≡ length c.args.rest.now = omega arith in
-    rw (← done) c.loop-p.invariant.0
+    let a = c.args in
+    let l = c.loop-j in
+    let all = zip_end a.rest.now a.x.now l.yielded c.into_iter-j-iterator.result l.j-iterator c.next.new.self c.next.result
+    (search rules) (search rules) l.yielded_by c.in-None.is c.next.ensures.steps in
+    let done : length l.yielded ≡ length a.rest.now = omega arith in
+    rw (← done) l.invariant

@@ -1,12 +1,8 @@
--- `doubling::double_or_zero` meets its contract: after p turns the weights are halved at the first p of the indices.
-use Prim.Native.Nat.{◌-◌, ◌≤◌}
+-- `doubling::double_or_zero` meets its contract: after some turns the weights are halved at the first of the indices.
 use mathlib.Core.Path.{◌≡◌}
 use lib.ListN.{length}
 use Rattle.doubling.specs.Doubling.{halved_to}
 use Rattle.doubling.proofs.double_or_zero.Given as goal
 
-abbrev pub invariant-loop-p : goal.invariant-loop-p
-invariant-loop-p l = (l.w ≡ halved_to l.initial.w l.rest l.x l.sigma l.p) × (l.p ≤ length l.rest) × (length l.w ≡ length l.initial.w)
-
-abbrev pub decreases-loop-p : goal.decreases-loop-p
-decreases-loop-p l = length l.rest - l.p
+abbrev pub invariant-loop-j : goal.invariant-loop-j
+invariant-loop-j l = l.w ≡ halved_to l.initial.w l.rest l.x l.sigma (length l.yielded)

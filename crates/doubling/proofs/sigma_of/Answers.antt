@@ -1,42 +1,29 @@
--- `doubling::sigma_of` meets its contract: after p turns plus is how many of the first p colours are above 0.
-use borrow.Author.Tests.{le-leb, lt-leb}
-use Prim.Native.Nat.{ℕ, ◌*◌}
-use mathlib.Core.Bool.{Bool}
-use mathlib.Core.Path.{◌≡◌, refl}
-use native.Mathlib.Omega.{arith}
-use lib.Ieee.{neg, of_bits, lt}
+-- `doubling::sigma_of` meets its contract: the colours above 0 are counted over the elements as over the indices.
+use borrow.Author.Tests.{le-leb, lt-leb, tests}
+use Prim.Native.Nat.{◌*◌}
+use mathlib.Core.Path.{◌≡◌, refl, ◌∙◌}
+use lib.Ieee.{nan, neg, of_bits, lt}
 use lib.ListN.{length}
-use Rattle.seq.specs.Keep.{count}
+use Rattle.std.proofs.Common.{rules}
+use Rattle.std.proofs.lemmas.Iterator.{YieldsList-from_slice}
+use Rattle.std.proofs.lemmas.Iterator.Consumers.{YieldsList-from_filter, count_from_yields_List}
 use Rattle.seq.specs.Sums.{plus_zero, at}
-use Rattle.seq.proofs.Keeping.{counts, passes}
+use Rattle.seq.specs.Keep.{count}
+use Rattle.weights.proofs.Chains.{count_whole}
 use Rattle.doubling.proofs.sigma_of.Goals as goal
-use Rattle.doubling.proofs.sigma_of.Goals.{then-x-p, else-x-p}
+use Rattle.doubling.proofs.sigma_of.Goals.{After-count-plus}
 
-pub loop-p-init : goal.loop-p-init
-unfolding count
-loop-p-init c = (refl, omega arith, omega arith)
-
-pub loop-p-preserved : goal.loop-p-preserved
-loop-p-preserved c =
-    let v = c.loop-p.invariant in
-    let p = c.loop-p.p in
-    let f : ℕ → Bool = λ i. lt plus_zero (at c.args.x.now i) in
-    elim c.if-x-p.branch [
-      | then-x-p t ↦ rw (t.plus-is, counts f p t.if-x-p.true, ← v.0) (refl, omega arith, omega arith)
-      | else-x-p t ↦ rw (t.plus-is, passes f p t.if-x-p.false) (v.0, omega arith, omega arith)
-    ]
+counted : (c : After-count-plus) → c.count-plus.result ≡ count (λ p. lt plus_zero (at c.args.x.now p)) (length c.args.x.now)
+counted c =
+    count_from_yields_List c.filter.result c.count-plus.result c.count-plus.ensures.ran
+    (YieldsList-from_filter _ (lt plus_zero) (YieldsList-from_slice c.args.x.now cc) c.filter.ensures.closure (λ y r q k. search (rules, tests)))
+    ∙ count_whole nan c.args.x.now (lt plus_zero)
 
 pub returns-then-plus-x : goal.returns-then-plus-x
 returns-then-plus-x c =
-    let n = length c.args.x.now in
-    let done : c.loop-p.p ≡ n = omega arith in
-    let e = rw done at c.loop-p.invariant.0 in
-    rw (← e, le-leb (2 * c.loop-p.plus) n c.if-plus-x.true)
+    rw (← counted (goal.at.returns-then-plus-x c).After-count-plus, le-leb (2 * c.count-plus.result) (length c.args.x.now) c.if-plus-x.true)
 
 pub returns-else-plus-x : goal.returns-else-plus-x
 unfolding neg of_bits
 returns-else-plus-x c =
-    let n = length c.args.x.now in
-    let done : c.loop-p.p ≡ n = omega arith in
-    let e = rw done at c.loop-p.invariant.0 in
-    rw (← e, lt-leb (2 * c.loop-p.plus) n c.if-plus-x.false) refl
+    rw (← counted (goal.at.returns-else-plus-x c).After-count-plus, lt-leb (2 * c.count-plus.result) (length c.args.x.now) c.if-plus-x.false) refl

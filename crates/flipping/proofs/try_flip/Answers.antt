@@ -17,15 +17,15 @@ less_column_of-requires c =
     let p = c.requires in
     (p.0.inside c.args.j p.2, p.0.low, p.0.high)
 
-pub returns-then-stays_below_of : goal.returns-then-stays_below_of
-returns-then-stays_below_of c =
+pub returns-then-not-stays_below_of : goal.returns-then-not-stays_below_of
+returns-then-not-stays_below_of c =
     let a = c.args in
-    turned-over (entry_of a.matrix.now a.bits.now a.n a.cols.now a.scale.now a.j) a.j a.x.now a.ax.now a.from
-    c.stays_below_of.result c.stays_below_of.ensures c.less_column_of.new.ax c.max_abs.result c.if-stays_below_of.true
-    c.less_column_of.ensures c.max_abs.ensures
+    left_alone (entry_of a.matrix.now a.bits.now a.n a.cols.now a.scale.now a.j) a.j a.x.now a.ax.now a.best
+    c.stays_below_of.result c.stays_below_of.ensures c.if-not-stays_below_of.true
 
 pub returns : goal.returns
 returns c =
     let a = c.args in
-    left_alone (entry_of a.matrix.now a.bits.now a.n a.cols.now a.scale.now a.j) a.j a.x.now a.ax.now a.from
-    c.stays_below_of.result c.stays_below_of.ensures c.if-stays_below_of.false
+    turned-over (entry_of a.matrix.now a.bits.now a.n a.cols.now a.scale.now a.j) a.j a.x.now a.ax.now a.best
+    c.stays_below_of.result c.stays_below_of.ensures c.less_column_of.new.ax c.max_abs.result c.if-not-stays_below_of.false
+    c.less_column_of.ensures c.max_abs.ensures

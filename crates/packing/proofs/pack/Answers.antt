@@ -3,6 +3,7 @@ use Prim.Native.Nat.{ℕ}
 use mathlib.Core.Path.{sym, ap, subst, ◌∙◌}
 use mathlib.Core.List.{List}
 use native.Mathlib.Omega.{arith}
+use lib.Ieee.{nan}
 use lib.ListN.{length}
 use lib.Seq.{length-take-le}
 use Rattle.seq.specs.Indices.{Below}
@@ -38,5 +39,5 @@ returns c =
     record {
       numbers = columns_packed w _ _ _ p long c.fill.ensures;
       weights = weights_packed w _ c.args.kept.now c.choose.new.to _ p.long (omega (arith, p.within, long)) c.requires.1
-          (c.choose.ensures ∙ ap (chosen w) front) c.fill-2.ensures;
+          (c.choose.ensures nan ∙ ap (chosen w) front) c.fill-2.ensures;
     }

@@ -1,29 +1,15 @@
 -- `places::choose` meets its contract: a loop that fills, with the elements at the places.
-use Rattle.seq.proofs.Filling.{start, turn, whole}
-use borrow.Author.Rules.{rules}
-use Prim.Native.Nat.{◌<◌}
-use mathlib.Core.Path.{refl}
 use native.Mathlib.Omega.{arith}
-use lib.ListN.{length, get_or}
+use mathlib.Core.Path.{◌∙◌}
+use Rattle.std.proofs.lemmas.List.{get_or_default}
+use Rattle.seq.proofs.Filling.{start, turn, whole}
 use Rattle.places.proofs.choose.Goals as goal
 
 pub loop-p-init : goal.loop-p-init
-loop-p-init c = start _ _
-
-pub overflow_cast-j : goal.overflow_cast-j
-overflow_cast-j c = omega (arith, c.type_inv.places c.loop-p.p)
-
-pub offset_bounds-v-j : goal.offset_bounds-v-j
-offset_bounds-v-j c =
-    let b : get_or c.args.places.now c.loop-p.p 0 < length c.args.v.now = c.requires.1.below
-    c.loop-p.p c.loop-p-test.true in
-    search rules
-
-pub bounds-v-j : goal.bounds-v-j
-bounds-v-j c = c.requires.1.below c.loop-p.p c.loop-p-test.true
+loop-p-init g c = λ d. start _ _
 
 pub loop-p-preserved : goal.loop-p-preserved
-loop-p-preserved c = turn c.loop-p.invariant (omega arith) refl
+loop-p-preserved g c = λ d. turn (c.loop-p.invariant d) (omega arith) (c.index-v-j.is ∙ get_or_default c.args.v.now _ _ d (c.requires.1.below _ c.loop-p-test.true))
 
 pub returns : goal.returns
-returns c = rw (← c.requires.0) (whole c.loop-p.invariant (omega arith))
+returns g c = λ d. rw (← c.requires.0) (whole (c.loop-p.invariant d) (omega arith))

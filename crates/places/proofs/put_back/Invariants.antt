@@ -1,13 +1,10 @@
--- `places::put_back` meets its contract: after p turns the first p values are back at their places.
-use Rattle.places.specs.Places.{put_back}
-use Rattle.seq.specs.Sums.{plus_zero}
-use Prim.Native.Nat.{◌-◌, ◌≤◌}
+-- `places::put_back` meets its contract: after some turns the first values are back at their places.
 use mathlib.Core.Path.{◌≡◌}
 use lib.ListN.{length}
+use Rattle.places.specs.Places.{put_back}
 use Rattle.places.proofs.put_back.Given as goal
 
-abbrev pub invariant-loop-p : goal.invariant-loop-p
-invariant-loop-p l = (l.p ≤ length l.places) × (length l.v ≡ length l.initial.v) × (l.v ≡ put_back plus_zero l.places l.values l.initial.v l.p)
-
-abbrev pub decreases-loop-p : goal.decreases-loop-p
-decreases-loop-p l = length l.places - l.p
+abbrev pub invariant-loop-j : goal.invariant-loop-j
+invariant-loop-j g l =
+    (goal.iterator-loop-j g).can_next l.j-iterator × (goal.iterator-loop-j g).is_finite l.j-iterator
+    × ((d : _) → l.v ≡ put_back d l.places l.values l.initial.v (length l.yielded))

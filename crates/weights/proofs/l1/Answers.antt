@@ -1,22 +1,18 @@
--- `weights::l1` meets its contract: after j turns the sum is that of the first j magnitudes.
-use mathlib.Core.Path.{◌≡◌, refl}
-use native.Mathlib.Omega.{arith}
-use lib.Ieee.{binary64}
-use lib.ListN.{length}
-use Rattle.seq.specs.Sums.{plus_zero, sum_from}
-use Rattle.seq.proofs.Summing.{sum_more}
+-- `weights::l1` meets its contract: the sum over the elements is that over the indices.
+use borrow.Author.Tests.{tests}
+use mathlib.Core.Path.{◌∙◌}
+use lib.Ieee.{add, binary64, nan}
+use Rattle.std.proofs.Common.{rules}
+use Rattle.std.proofs.lemmas.Iterator.{YieldsList-from_slice}
+use Rattle.std.proofs.lemmas.Iterator.Consumers.{fold_from_yields_List}
+use Rattle.seq.specs.Sums.{plus_zero}
+use Rattle.ieee.specs.Magnitude.{abs_of}
 use Rattle.weights.specs.Weights.{l1_of}
+use Rattle.weights.proofs.Chains.{sum_whole}
 use Rattle.weights.proofs.l1.Goals as goal
-
-pub loop-j-init : goal.loop-j-init
-unfolding sum_from
-loop-j-init c = (omega arith, refl)
-
-pub loop-j-preserved : goal.loop-j-preserved
-loop-j-preserved c = (omega arith, rw (sum_more binary64 plus_zero _ c.loop-j.j, ← c.loop-j.invariant.1, c.abs-sum.ensures))
 
 pub returns : goal.returns
 unfolding l1_of
 returns c =
-    let done : c.loop-j.j ≡ length c.args.w.now = omega arith in
-    rw (← done) c.loop-j.invariant.1
+    fold_from_yields_List _ (λ a x. add binary64 a (abs_of x)) plus_zero c.fold.result c.fold.ensures.ran (YieldsList-from_slice c.args.w.now cc) (λ a x b q k. search (rules, tests))
+    ∙ sum_whole nan c.args.w.now binary64 plus_zero abs_of
