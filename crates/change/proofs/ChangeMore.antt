@@ -1,13 +1,13 @@
 -- Laws of more columns: a block of changes over j columns becomes that over one or two more, and stays where the weights do not differ.
-use Prim.Native.Nat.{ℕ, zero, suc, ◌+◌, ◌-◌, ◌≤◌, ◌<◌}
+use Prim.Native.Nat.{ℕ, zero, suc, ◌+◌, ◌-◌, ◌≤◌, ◌<◌, max}
 use mathlib.Core.Path.{◌≡◌, sym, ap, ◌∙◌}
 use mathlib.Core.Bool.{true, false}
 use mathlib.Core.List.{List}
-use mathlib.Core.Logic.{◌⊎◌, inl, inr}
 use native.Mathlib.Omega.{arith}
-use native.Mathlib.Nat.{eq-or-lt_of_le}
 use native.Mathlib.Numerals.{add-one}
 use lib.ListN.{length}
+use Rattle.std.proofs.Common.{Option, None, Some}
+use Rattle.std.specs.Option.{MatchOption, unwrap_or}
 use lib.Ieee.{Float, nan, binary64, add, sub, mul, ne}
 use Rattle.seq.specs.Lists.{tabulate}
 use Rattle.seq.specs.Sums.{plus_zero, at}
@@ -16,18 +16,22 @@ use Rattle.rows.specs.Blocks.{plus_rows, plus_two_rows}
 use Rattle.change.specs.Margins.{change_to}
 use Rattle.change.specs.Unmoved.{Unmoved}
 
--- no place, and one place more, does not differ
-pub unmoved_none : (before after : List Float) (from : ℕ) → Unmoved before after from from
-unmoved_none before after from = record { low = omega arith; inside = λ h. h; same = λ k l m. absurd (omega arith) }
+-- before the first place that a search finds, or the end, nothing differs
+pub unmoved-first : {before after : List Float} {from : ℕ} (r : Option ℕ)
+    → MatchOption r ((k : ℕ) → from ≤ k → k < length before → ne (sub binary64 (at before k) (at after k)) plus_zero ≡ false)
+    (λ i. (from ≤ i) × (i < length before) × Unit {0}
+    × ((k : ℕ) → from ≤ k → k < i → ne (sub binary64 (at before k) (at after k)) plus_zero ≡ false))
+    → Unmoved before after from (unwrap_or r (max from (length before)))
+unmoved-first None h = record { low = omega arith; inside = λ l. omega arith; same = λ k l m. h k l (omega arith) }
+unmoved-first (Some i) h = record { low = h.0; inside = λ l. omega arith; same = h.3 }
 
-pub unmoved_more : {before after : List Float} {from j : ℕ} → Unmoved before after from j → j < length before
-    → ne (sub binary64 (at before j) (at after j)) plus_zero ≡ false → Unmoved before after from (j + 1)
-unmoved_more {before} {after} {from} {j} u h z =
-    record { low = omega (arith, u.low); inside = λ l. omega arith; same = λ k l m. at_most k l (eq-or-lt_of_le (omega arith)) }
-  where
-    at_most : (k : ℕ) → from ≤ k → (k ≡ j) ⊎ (k < j) → ne (sub binary64 (at before k) (at after k)) plus_zero ≡ false
-    at_most k l (inl o) = rw o z
-    at_most k l (inr o) = u.same k l o
+-- where the search starts within the weights, they end where it finds nothing
+pub unmoved-to : {before after : List Float} {from : ℕ} (r : Option ℕ) → from ≤ length before
+    → Unmoved before after from (unwrap_or r (max from (length before))) → Unmoved before after from (unwrap_or r (length before))
+unmoved-to {before} {after} {from} None l u =
+    let q : max from (length before) ≡ length before = omega arith in
+    rw q at u
+unmoved-to (Some i) l u = u
 
 module _ (matrix : ℕ → ℕ → Float) (before after : List Float) where
   -- a change takes a column at which the weights differ

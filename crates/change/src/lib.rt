@@ -1,7 +1,7 @@
 // How far the margins move between two weight vectors, at the worst row.
 #![tactic(auto)]
 
-ghost use Rattle.std.specs.Prelude.{◌≡◌, ◌≤◌, ◌<◌, ◌+◌, ◌%◌, length};
+ghost use Rattle.std.specs.Prelude.{◌≡◌, ◌≤◌, ◌<◌, ◌+◌, ◌%◌, max, length, unwrap_or, IfSome};
 ghost use Rattle.seq.specs.Lists.{tabulate};
 ghost use Rattle.seq.specs.Sums.{at};
 ghost use Rattle.limits.specs.Reading.{read_of};
@@ -14,19 +14,14 @@ use ieee::{abs, larger};
 use rows::{add_rows, add_two_rows, block_length};
 use seq::fill;
 
-// The next place from `from` on at which the weights differ, or where they end.
-fn next_moved(before: &[f64], after: &[f64], from: usize) -> usize
+// The next place from `from` on at which the weights differ.
+fn next_moved(before: &[f64], after: &[f64], from: usize) -> Option<usize>
     requires { length after.now ≡ length before.now }
-    ensures { Unmoved before.now after.now from result × Differs before.now after.now result }
+    ensures same { Unmoved before.now after.now from
+        (unwrap_or result (max from (length before.now))) }
+    ensures moved { IfSome result (λ j. (j < length before.now) × Differs before.now after.now j) }
 {
-    let mut j = from;
-    while j < before.len() {
-        if before[j] - after[j] != 0.0 {
-            return j;
-        }
-        j += 1;
-    }
-    j
+    (from..before.len()).find(|j| before[*j] - after[*j] != 0.0)
 }
 
 // The changes of the rows from `from` on, as many as the block holds, by two columns at a time.
@@ -43,19 +38,17 @@ pub fn changes_into(
     ensures { block.new ≡ tabulate (λ i. change_to (read_of matrix.now bits.now n) before.now
         after.now (from + i) (length before.now)) (length block.old) }
 {
-    fill(&mut block[..], 0.0);
-    let mut j = next_moved(before, after, 0);
-    while j < before.len() {
+    fill(block, 0.0);
+    let mut next = next_moved(before, after, 0);
+    while let Some(j) = next {
         let s = before[j] - after[j];
-        let p = next_moved(before, after, j + 1);
-        if p < before.len() {
-            let t = before[p] - after[p];
-            add_two_rows(&mut block[..], from, matrix, bits, n, j, s, p, t);
-            j = next_moved(before, after, p + 1);
-        } else {
-            add_rows(&mut block[..], from, matrix, bits, n, j, s);
-            j = p;
-        }
+        let Some(p) = next_moved(before, after, j + 1) else {
+            add_rows(block, from, matrix, bits, n, j, s);
+            return;
+        };
+        let t = before[p] - after[p];
+        add_two_rows(block, from, matrix, bits, n, j, s, p, t);
+        next = next_moved(before, after, p + 1);
     }
 }
 
@@ -63,13 +56,7 @@ pub fn changes_into(
 fn largest_from(most: f64, block: &[f64]) -> f64
     ensures { result ≡ max_abs_from most (at block.now) (length block.now) }
 {
-    let mut r = most;
-    let mut i = 0usize;
-    while i < block.len() {
-        r = larger(r, abs(block[i]));
-        i += 1;
-    }
-    r
+    block.iter().fold(most, |r, x| larger(r, abs(*x)))
 }
 
 // The largest change of a margin, as many rows at a time as the block holds.
@@ -87,12 +74,10 @@ fn largest_change(
 {
     let size = block.len();
     let mut most = 0.0;
-    let mut from = 0usize;
-    while from < n {
+    for from in (0..n).step_by(size) {
         let k = block_length(from, n, size);
         changes_into(&mut block[..k], from, matrix, bits, n, before, after);
         most = largest_from(most, &block[..k]);
-        from += k;
     }
     most
 }

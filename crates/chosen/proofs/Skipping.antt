@@ -1,12 +1,12 @@
 -- A sum by rows passes over the columns that add nothing: a running sum from +0.0 is never -0.0, so that a zero term leaves it as it is.
-use Prim.Native.Nat.{ℕ, zero, suc, ◌+◌, ◌-◌, ◌≤◌, ◌<◌}
-use mathlib.Core.Path.{◌≡◌, sym, ap, ◌∙◌}
-use mathlib.Core.Logic.{◌⊎◌, inl, inr}
-use mathlib.Core.Bool.{Bool, true, false, not, false≢true}
+use Prim.Native.Nat.{ℕ, zero, suc, ◌+◌, ◌-◌, ◌≤◌, ◌<◌, max}
+use mathlib.Core.Path.{◌≡◌, refl, sym, ap, ◌∙◌}
+use mathlib.Core.Bool.{Bool, true, false, not, ◌||◌, false≢true}
 use mathlib.Core.List.{List}
 use native.Mathlib.Omega.{arith}
-use native.Mathlib.Nat.{eq-or-lt_of_le}
 use lib.Dec.{T}
+use Rattle.std.proofs.Common.{Option, None, Some}
+use Rattle.std.specs.Option.{MatchOption, unwrap_or}
 use lib.Ieee.{Float, nan, binary64, of_bits, add, mul, ne, fits}
 use lib.Ieee.Fits.{mul-fits}
 use lib.Ieee.Scale.{finite}
@@ -39,11 +39,6 @@ more_zeros v a (suc d) h z =
     nothing = plus-nothing binary64 (sum_to plus_zero v (a + d)) (v (a + d)) (sum_fits binary64 v (a + d)) (h (a + d))
         (sum_never_minus binary64 v (a + d) (λ j l. h j)) (z (a + d) (omega arith) (omega arith))
 
--- no place, and one place more, is passed over
-pub passed_none : (scale g : List Float) (from : ℕ) → PassedOver scale g from from
-passed_none scale g from =
-    record { low = omega arith; high = omega arith; inside = λ h. h; nothing = λ k l m. absurd (omega arith) }
-
 is : (b : Bool) → not b ≡ false → T b
 is true h = tt
 is false h = absurd (false≢true (sym h))
@@ -52,19 +47,33 @@ zero_is : (x : Float) → ne x plus_zero ≡ false → T (is_zero x)
 unfolding of_bits
 zero_is x e = is (is_zero x) (sym (nonzero_not_zero x) ∙ e)
 
-pub passed-more : {scale g : List Float} {from p : ℕ} → PassedOver scale g from p → p < length g → ne (at g p) plus_zero ≡ false → not
-    (finite (at scale p)) ≡ false → PassedOver scale g from (p + 1)
-passed-more {scale} {g} {from} {p} s h z e =
-    record {
-      low = omega (arith, s.low);
-      high = omega (arith, s.low);
-      inside = λ l. omega arith;
-      nothing = λ k l m. at_most k l (eq-or-lt_of_le (omega arith));
-    }
+-- a place at which the test finds nothing
+pub nothing_there : (x s : Float) → ne x plus_zero || not (finite s) ≡ false → T (is_zero x) × T (finite s)
+nothing_there x s e = both (ne x plus_zero) (not (finite s)) refl refl e
   where
-    at_most : (k : ℕ) → from ≤ k → (k ≡ p) ⊎ (k < p) → T (is_zero (at g k)) × T (finite (at scale k))
-    at_most k l (inl o) = rw o (zero_is (at g p) z, is (finite (at scale p)) e)
-    at_most k l (inr o) = s.nothing k l o
+    both : (a b : Bool) → a ≡ ne x plus_zero → b ≡ not (finite s) → a || b ≡ false → T (is_zero x) × T (finite s)
+    both true b p q e = absurd (false≢true (sym e))
+    both false b p q e = (zero_is x (sym p), is (finite s) (sym q ∙ e))
+
+-- the first place that a search finds, or the end, passes over those before it
+pub passed-first : {scale g : List Float} {from : ℕ} (r : Option ℕ)
+    → MatchOption r ((k : ℕ) → from ≤ k → k < length g → T (is_zero (at g k)) × T (finite (at scale k)))
+    (λ i. (from ≤ i) × (i < length g) × Unit {0} × ((k : ℕ) → from ≤ k → k < i → T (is_zero (at g k)) × T (finite (at scale k))))
+    → PassedOver scale g from (unwrap_or r (max from (length g)))
+passed-first None h =
+    record {
+      low = omega arith;
+      high = omega arith;
+      inside = λ l. omega arith;
+      nothing = λ k l m. h k l (omega arith);
+    }
+passed-first (Some i) h =
+    record {
+      low = h.0;
+      high = omega arith;
+      inside = λ l. omega arith;
+      nothing = h.3;
+    }
 
 module _ (matrix : List Float) (bits : List ℕ) (n : ℕ) (cols : List ℕ) (scale g : List Float) (rows : ℕ) (c : Chosen matrix bits n cols scale rows) where
   abbrev a : ℕ → ℕ → Float

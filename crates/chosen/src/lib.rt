@@ -1,7 +1,7 @@
 // How an entry of a pass is read, and the next column at which a direction is not 0.
 #![tactic(auto)]
 
-ghost use Rattle.std.specs.Prelude.{◌≡◌, ◌<◌, length};
+ghost use Rattle.std.specs.Prelude.{◌≡◌, ◌<◌, max, length, unwrap_or, IfSome};
 ghost use Rattle.chosen.specs.Entries.{entry_of};
 ghost use Rattle.chosen.specs.ChosenColumns.{Chosen};
 ghost use Rattle.chosen.specs.PassedOver.{PassedOver};
@@ -22,25 +22,15 @@ pub fn entry(
     requires { Chosen matrix.now bits.now n cols.now scale.now n × (p < length cols.now) }
     ensures { result ≡ entry_of matrix.now bits.now n cols.now scale.now p i }
 {
-    let c = cols[p] as usize;
-    entry_of(matrix, bits, n, c, scale[p], i)
+    entry_of(matrix, bits, n, cols[p] as usize, scale[p], i)
 }
 
-// The first place from `from` on whose column may add something, or where the places end. Where g is 0.0 and the scale is finite, the
-// column's entries are finite too, and it adds nothing.
-pub fn next_live(scale: &[f64], g: &[f64], from: usize) -> usize
+// The first place from `from` on whose column may add something. Where g is 0.0 and the scale is finite, the column's entries are finite
+// too, and it adds nothing.
+pub fn next_live(scale: &[f64], g: &[f64], from: usize) -> Option<usize>
     requires { length scale.now ≡ length g.now }
-    ensures { PassedOver scale.now g.now from result }
+    ensures passed { PassedOver scale.now g.now from (unwrap_or result (max from (length g.now))) }
+    ensures there { IfSome result (λ p. p < length g.now) }
 {
-    let mut p = from;
-    while p < g.len() {
-        if g[p] != 0.0 {
-            return p;
-        }
-        if !is_finite(scale[p]) {
-            return p;
-        }
-        p += 1;
-    }
-    p
+    (from..g.len()).find(|p| g[*p] != 0.0 || !is_finite(scale[*p]))
 }

@@ -13,7 +13,7 @@ use chosen::{entry, next_live};
 use columns::add_squares;
 use linear::dot;
 use paired::add_two_of;
-use reading::add_column_of;
+use reading::{add_column_of, doubles_of};
 use seq::fill;
 
 // Row i, an entry for each column.
@@ -30,10 +30,8 @@ pub fn row_into(
     ensures { v.new ≡ row_of (entry_of matrix.now bits.now n cols.now scale.now)
         (length cols.now) i }
 {
-    let mut p = 0usize;
-    while p < v.len() {
-        v[p] = entry(matrix, bits, n, cols, scale, p, i);
-        p += 1;
+    for (p, x) in v.iter_mut().enumerate() {
+        *x = entry(matrix, bits, n, cols, scale, p, i);
     }
 }
 
@@ -54,8 +52,7 @@ fn add_one_at(
         (entry_of matrix.now bits.now n cols.now scale.now p) (at g.now p)
         acc.old) (length acc.old) }
 {
-    let c = cols[p] as usize;
-    add_column_of(acc, matrix, bits, n, c, scale[p], g[p]);
+    add_column_of(acc, matrix, bits, n, cols[p] as usize, scale[p], g[p]);
 }
 
 // acc plus columns p and q, in order.
@@ -98,17 +95,15 @@ pub fn times_into(
         (entry_of matrix.now bits.now n cols.now scale.now) (length cols.now)
         (length acc.old) g.now }
 {
-    fill(&mut acc[..], 0.0);
-    let mut p = next_live(scale, g, 0);
-    while p < cols.len() {
-        let q = next_live(scale, g, p + 1);
-        if q < cols.len() {
-            add_two_at(&mut acc[..], matrix, bits, n, cols, scale, g, p, q);
-            p = next_live(scale, g, q + 1);
-        } else {
-            add_one_at(&mut acc[..], matrix, bits, n, cols, scale, g, p);
-            p = q;
-        }
+    fill(acc, 0.0);
+    let mut next = next_live(scale, g, 0);
+    while let Some(p) = next {
+        let Some(q) = next_live(scale, g, p + 1) else {
+            add_one_at(acc, matrix, bits, n, cols, scale, g, p);
+            return;
+        };
+        add_two_at(acc, matrix, bits, n, cols, scale, g, p, q);
+        next = next_live(scale, g, q + 1);
     }
 }
 
@@ -119,14 +114,9 @@ fn norms_of_doubles(acc: &mut [f64], matrix: &[f64], n: usize, cols: &[u32], sca
         (entry_of matrix.now [] n cols.now scale.now) (length cols.now)
         (length acc.old) }
 {
-    fill(&mut acc[..], 0.0);
-    let mut p = 0usize;
-    while p < cols.len() {
-        let a = (cols[p] as usize) * n;
-        let e = a + n;
-        let s = scale[p];
-        add_squares(&mut acc[..], &matrix[a..e], s);
-        p += 1;
+    fill(acc, 0.0);
+    for (j, s) in cols.iter().zip(scale) {
+        add_squares(acc, doubles_of(matrix, n, *j as usize), *s);
     }
 }
 
@@ -144,7 +134,7 @@ pub fn norms_into(
         (entry_of matrix.now bits.now n cols.now scale.now) (length cols.now)
         (length acc.old) }
 {
-    if bits.len() == 0 {
+    if bits.is_empty() {
         norms_of_doubles(acc, matrix, n, cols, scale);
     } else {
         fill(acc, dot(scale, scale));

@@ -9,6 +9,7 @@ ghost use Rattle.staying.specs.Scaling.{scaled_by, scaled_votes};
 
 use columns::add_two;
 use ieee::abs;
+use reading::{doubles_of, votes_of};
 use twovotes::add_two_signed;
 
 // acc + two columns of bits, each times its g, in order.
@@ -53,18 +54,26 @@ pub fn add_two_of(
         (scaled_by (read_of matrix.now bits.now n k) n t) h acc.old)
         (length acc.old) }
 {
-    if bits.len() == 0 {
-        let a = j * n;
-        let e = a + n;
-        let c = k * n;
-        let f = c + n;
-        add_two(acc, &matrix[a..e], s, g, &matrix[c..f], t, h);
+    if bits.is_empty() {
+        add_two(
+            acc,
+            doubles_of(matrix, n, j),
+            s,
+            g,
+            doubles_of(matrix, n, k),
+            t,
+            h,
+        );
     } else {
-        let b = (n + 7) / 8;
-        let a = j * b;
-        let e = a + b;
-        let c = k * b;
-        let f = c + b;
-        add_two_votes(acc, &bits[a..e], s, g, &bits[c..f], t, h, n);
+        add_two_votes(
+            acc,
+            votes_of(bits, n, j),
+            s,
+            g,
+            votes_of(bits, n, k),
+            t,
+            h,
+            n,
+        );
     }
 }

@@ -3,16 +3,35 @@
 #![tactic(auto)]
 
 ghost use Rattle.std.specs.Prelude.{◌≡◌, ◌≤◌, ◌+◌, ◌*◌, length};
-ghost use Rattle.seq.specs.Lists.{tabulate};
+ghost use Rattle.seq.specs.Lists.{tabulate, part};
+ghost use Rattle.limits.specs.Votes.{bytes_of};
 ghost use Rattle.limits.specs.Reading.{read_of, Lies};
 ghost use Rattle.columns.specs.Kernels.{plus_column};
 ghost use Rattle.staying.specs.Scaling.{scaled_by, scaled_votes};
 
 use columns::add_column;
 use ieee::abs;
-use limits::wide;
 use spare::bit;
 use votes::add_signed;
+
+// Column j of a matrix of doubles.
+pub fn doubles_of(matrix: &[f64], n: usize, j: usize) -> &[f64]
+    requires { j * n + n ≤ length matrix.now }
+    ensures column { result.now ≡ part (j * n) n matrix.now }
+    ensures long { length result.now ≡ n }
+{
+    &matrix[j * n..][..n]
+}
+
+// Column j of a matrix of bits.
+pub fn votes_of(bits: &[u8], n: usize, j: usize) -> &[u8]
+    requires { j * bytes_of n + bytes_of n ≤ length bits.now }
+    ensures column { result.now ≡ part (j * bytes_of n) (bytes_of n) bits.now }
+    ensures long { length result.now ≡ bytes_of n }
+{
+    let b = n.div_ceil(8);
+    &bits[j * b..][..b]
+}
 
 // The entry at row i of column j, scaled by s; under the rows stands |s|.
 pub fn entry_of(matrix: &[f64], bits: &[u8], n: usize, j: usize, s: f64, i: usize) -> f64
@@ -22,14 +41,11 @@ pub fn entry_of(matrix: &[f64], bits: &[u8], n: usize, j: usize, s: f64, i: usiz
     if n <= i {
         return abs(s);
     }
-    if bits.len() == 0 {
-        let at = j * n + i;
-        return matrix[at] * s;
+    if bits.is_empty() {
+        return doubles_of(matrix, n, j)[i] * s;
     }
-    let b = (n + 7) / 8;
-    let at = j * b + i / 8;
     let either = [s, -s];
-    either[bit(wide(bits[at]), i % 8)]
+    either[bit(usize::from(votes_of(bits, n, j)[i / 8]), i % 8)]
 }
 
 // acc + g times a column of bits.
@@ -40,7 +56,7 @@ fn add_votes(acc: &mut [f64], column: &[u8], n: usize, s: f64, g: f64)
 {
     add_signed(acc, column, n, s * g);
     if n < acc.len() {
-        acc[n] = acc[n] + abs(s) * g;
+        acc[n] += abs(s) * g;
     }
 }
 
@@ -59,14 +75,9 @@ pub fn add_column_of(
         (scaled_by (read_of matrix.now bits.now n j) n s) g acc.old)
         (length acc.old) }
 {
-    if bits.len() == 0 {
-        let a = j * n;
-        let e = a + n;
-        add_column(acc, &matrix[a..e], s, g);
+    if bits.is_empty() {
+        add_column(acc, doubles_of(matrix, n, j), s, g);
     } else {
-        let b = (n + 7) / 8;
-        let a = j * b;
-        let e = a + b;
-        add_votes(acc, &bits[a..e], n, s, g);
+        add_votes(acc, votes_of(bits, n, j), n, s, g);
     }
 }

@@ -1,31 +1,13 @@
--- Laws of a stretch of rows: where it ends, and that the array which holds it gives back what was written to it.
-use Prim.Native.Nat.{ℕ, ◌+◌, ◌%◌, ◌≤◌, ◌<◌}
+-- Laws of a stretch of rows: the array which holds it gives back what was written to it.
+use Prim.Native.Nat.{ℕ, ◌≤◌}
 use mathlib.Core.Path.{◌≡◌}
 use mathlib.Core.List.{List, ◌++◌}
-use native.Mathlib.Decide.{dec_lt}
 use native.Mathlib.Omega.{arith}
 use lib.ListN.{length, take, drop}
 use lib.Seq.{length-take-le, length_front, take_at}
 use lib.Ieee.{Float}
 use Rattle.seq.specs.Lists.{tabulate}
 use Rattle.seq.proofs.Filling.{length-tab}
-
--- a block that starts before the end has a row
-pub some-rows : (from r n most : ℕ) → from < n → 0 < most → (n ≤ from + most → from + r ≡ n) → (from + most ≤ n → r ≡ most) → 0 < r
-some-rows from r n most h some e k = go (dec_lt n (from + most))
-  where
-    go : Dec (n < from + most) → 0 < r
-    go (yes g) = omega (arith, e (omega arith))
-    go (no g) = omega (arith, k (omega arith))
-
--- a block that does not end the rows leaves the next one on a byte, as its own size does
-pub on_a_byte : (from r n most : ℕ) → from % 8 ≡ 0 → most % 8 ≡ 0 → (n ≤ from + most → from + r ≡ n) → (from + most ≤ n → r ≡ most) → from + r < n
-    → (from + r) % 8 ≡ 0
-on_a_byte from r n most b d e k h = go (dec_lt n (from + most))
-  where
-    go : Dec (n < from + most) → (from + r) % 8 ≡ 0
-    go (yes g) = absurd (omega (arith, e (omega arith)))
-    go (no g) = omega (arith, k (omega arith))
 
 -- what was written to the front of an array is read from it
 pub front_back : (k : ℕ) (old new : List Float) (f : ℕ → Float) → k ≤ length old → new ≡ tabulate f (length (take k old)) → take k

@@ -1,8 +1,9 @@
 // Some rows of the margins at a time, column by column, so that no scratch is needed: how many, and what a column adds to them.
 #![tactic(auto)]
 
-ghost use Rattle.std.specs.Prelude.{◌≡◌, ◌≤◌, ◌+◌, ◌%◌, length};
-ghost use Rattle.seq.specs.Lists.{tabulate};
+ghost use Rattle.std.specs.Prelude.{◌≡◌, ◌≤◌, ◌+◌, ◌*◌, ◌/◌, ◌%◌, length};
+ghost use Rattle.seq.specs.Lists.{tabulate, part};
+ghost use Rattle.limits.specs.Votes.{bytes_of};
 ghost use Rattle.limits.specs.Reading.{read_of, Lies};
 ghost use Rattle.rows.specs.Blocks.{plus_at, plus_two_at, plus_rows, plus_two_rows};
 
@@ -14,11 +15,27 @@ fn add_scaled(block: &mut [f64], column: &[f64], s: f64)
     requires { length column.now ≡ length block.old }
     ensures { block.new ≡ tabulate (plus_at column.now s block.old) (length block.old) }
 {
-    let mut i = 0usize;
-    while i < block.len() {
-        block[i] = block[i] + column[i] * s;
-        i += 1;
+    for (i, x) in block.iter_mut().enumerate() {
+        *x += column[i] * s;
     }
+}
+
+// k rows of column j from `from` on, of a matrix of doubles.
+fn doubles_from(matrix: &[f64], n: usize, j: usize, from: usize, k: usize) -> &[f64]
+    requires { j * n + from + k ≤ length matrix.now }
+    ensures rows { result.now ≡ part (j * n + from) k matrix.now }
+    ensures long { length result.now ≡ k }
+{
+    &matrix[j * n + from..][..k]
+}
+
+// The bytes that k rows of column j take, from `from` on, of a matrix of bits.
+fn votes_from(bits: &[u8], n: usize, j: usize, from: usize, k: usize) -> &[u8]
+    requires { j * bytes_of n + from / 8 + bytes_of k ≤ length bits.now }
+    ensures rows { result.now ≡ part (j * bytes_of n + from / 8) (bytes_of k) bits.now }
+    ensures long { length result.now ≡ bytes_of k }
+{
+    &bits[j * n.div_ceil(8) + from / 8..][..k.div_ceil(8)]
 }
 
 // block + s times the rows of column j from `from` on, which starts a byte. The choice between doubles and bits is made here.
@@ -36,14 +53,10 @@ pub fn add_rows(
         block.old) (length block.old) }
 {
     let k = block.len();
-    if bits.len() == 0 {
-        let a = j * n + from;
-        let e = a + k;
-        add_scaled(block, &matrix[a..e], s);
+    if bits.is_empty() {
+        add_scaled(block, doubles_from(matrix, n, j, from, k), s);
     } else {
-        let a = j * ((n + 7) / 8) + from / 8;
-        let e = a + (k + 7) / 8;
-        add_signed(block, &bits[a..e], k, s);
+        add_signed(block, votes_from(bits, n, j, from, k), k, s);
     }
 }
 
@@ -53,10 +66,8 @@ fn add_two_scaled(block: &mut [f64], first: &[f64], s: f64, second: &[f64], t: f
     ensures { block.new ≡ tabulate (plus_two_at first.now s second.now t block.old)
         (length block.old) }
 {
-    let mut i = 0usize;
-    while i < block.len() {
-        block[i] = (block[i] + first[i] * s) + second[i] * t;
-        i += 1;
+    for (i, x) in block.iter_mut().enumerate() {
+        *x = (*x + first[i] * s) + second[i] * t;
     }
 }
 
@@ -78,19 +89,14 @@ pub fn add_two_rows(
         block.old) (length block.old) }
 {
     let k = block.len();
-    if bits.len() == 0 {
-        let a = j * n + from;
-        let e = a + k;
-        let c = p * n + from;
-        let f = c + k;
-        add_two_scaled(block, &matrix[a..e], s, &matrix[c..f], t);
+    if bits.is_empty() {
+        let first = doubles_from(matrix, n, j, from, k);
+        let second = doubles_from(matrix, n, p, from, k);
+        add_two_scaled(block, first, s, second, t);
     } else {
-        let b = (n + 7) / 8;
-        let a = j * b + from / 8;
-        let e = a + (k + 7) / 8;
-        let c = p * b + from / 8;
-        let f = c + (k + 7) / 8;
-        add_two_signed(block, &bits[a..e], s, &bits[c..f], t, k);
+        let first = votes_from(bits, n, j, from, k);
+        let second = votes_from(bits, n, p, from, k);
+        add_two_signed(block, first, s, second, t, k);
     }
 }
 
@@ -99,5 +105,5 @@ pub fn block_length(from: usize, n: usize, most: usize) -> usize
     requires { from ≤ n }
     ensures { (from + result ≤ n) × (result ≤ most) × (n ≤ from + most → from + result ≡ n) × (from + most ≤ n → result ≡ most) }
 {
-    if n - from < most { n - from } else { most }
+    (n - from).min(most)
 }

@@ -10,12 +10,12 @@ ghost use Rattle.staying.specs.Scaling.{scaled_votes};
 ghost use Rattle.staying.specs.Below.{less_signed, below_four};
 
 use ieee::abs;
-use limits::wide;
 use spare::bit;
+use votes::signed_pairs;
 
 // Whether none of the four rows from r on, less what the nibble v signs, reaches the bound in magnitude.
-fn four_below(ax: &[f64], r: usize, pairs: &[f64], v: usize, bound: f64) -> bool
-    requires { (r + 4 ≤ length ax.now) × (v < 16) × (length pairs.now ≡ 8) }
+fn four_below(ax: &[f64], r: usize, pairs: &[f64; 8], v: usize, bound: f64) -> bool
+    requires { (r + 4 ≤ length ax.now) × (v < 16) }
     ensures { result ≡ below_four ax.now r pairs.now v bound }
 {
     let a = abs(ax[r] - pairs[2 * (v % 4)]) >= bound;
@@ -30,20 +30,16 @@ fn rows_below(ax: &[f64], column: &[u8], k: usize, t: f64, bound: f64) -> usize
     requires { (8 * k ≤ length ax.now) × (k ≤ length column.now) × (lt plus_zero bound ≡ true) }
     ensures { (result ≤ 8 * k) × (lt (max_abs_to (less_signed column.now t ax.now) result) bound ≡ true) }
 {
-    let m = -t;
-    let pairs = [t, t, m, t, t, m, m, m];
-    let mut i = 0usize;
-    while i < k {
-        let b = wide(column[i]);
-        if !four_below(ax, 8 * i, &pairs[..], b % 16, bound) {
+    let pairs = signed_pairs(t);
+    for (i, byte) in column[..k].iter().enumerate() {
+        let b = usize::from(*byte);
+        if !four_below(ax, 8 * i, &pairs, b % 16, bound)
+            || !four_below(ax, 8 * i + 4, &pairs, b / 16, bound)
+        {
             return 8 * i;
         }
-        if !four_below(ax, 8 * i + 4, &pairs[..], b / 16, bound) {
-            return 8 * i;
-        }
-        i += 1;
     }
-    8 * i
+    8 * k
 }
 
 // Whether the largest magnitude of ax - t times the column is below a bound. The first row that is not settles it.
@@ -57,15 +53,14 @@ pub fn votes_stay_below(ax: &[f64], column: &[u8], n: usize, s: f64, t: f64, bou
     }
     let p = t * s;
     let either = [p, -p];
-    let mut i = rows_below(ax, column, n / 8, p, bound);
-    while i < n {
-        if abs(ax[i] - either[bit(wide(column[i / 8]), i % 8)]) >= bound {
+    let passed = rows_below(ax, column, n / 8, p, bound);
+    for i in passed..n {
+        if abs(ax[i] - either[bit(usize::from(column[i / 8]), i % 8)]) >= bound {
             return false;
         }
-        i += 1;
     }
-    if i < ax.len() {
-        return !(abs(ax[i] - t * abs(s)) >= bound);
+    if n < ax.len() {
+        return !(abs(ax[n] - t * abs(s)) >= bound);
     }
     true
 }

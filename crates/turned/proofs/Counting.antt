@@ -1,11 +1,12 @@
 -- Laws of a stretch of rows: the count of those that turn over a + b rows goes on from that over a rows.
 use Prim.Native.Nat.{ℕ, zero, suc, ◌+◌, ◌≤◌, ◌<◌}
-use mathlib.Core.Path.{◌≡◌, refl}
+use mathlib.Core.Path.{◌≡◌, refl, sym, ap, ◌∙◌}
 use mathlib.Core.Bool.{Bool, true, false, not, ◌&&◌, ◌||◌, beq}
-use mathlib.Core.List.{List}
+use mathlib.Core.List.{List, ◌∷◌}
 use native.Mathlib.Nat.{add-zero, add-suc}
 use native.Mathlib.Omega.{arith}
-use native.Mathlib.Numerals.{add-one}
+use lib.ListN.{length}
+use Rattle.std.specs.List.{filter, range_with_len}
 use lib.Ieee.{Float, nan, lt}
 use Rattle.seq.specs.Choice.{pick}
 use Rattle.seq.specs.Lists.{tabulate}
@@ -67,14 +68,32 @@ differ t b a = go (lt t b) (lt t a)
     go false true = refl
     go false false = refl
 
--- the two ways of a turn
-pub counts : (f : ℕ → Bool) (i : ℕ) → f i ≡ true → count f i + 1 ≡ count f (i + 1)
+-- a filter over the indices from a on keeps as many as are counted
+kept : (f : ℕ → Bool) (a b : ℕ) → length (filter f (range_with_len a b)) ≡ count (λ i. f (a + i)) b
 unfolding count
-counts f i h = rw (add-one i, h) (add-one (count f i))
+kept f a zero = refl
+kept f a (suc b) = go (f a) refl (kept f (a + 1) b) ∙ sym (ap (count (λ i. f (a + i))) more ∙ count_parts (λ i. f (a + i)) 1 b)
+  where
+    more : suc b ≡ 1 + b
+    more = omega arith
 
-pub skips : (f : ℕ → Bool) (i : ℕ) → f i ≡ false → count f i ≡ count f (i + 1)
-unfolding count
-skips f i h = rw (add-one i, h)
+    shifted : count (λ i. f (a + 1 + i)) b ≡ count (λ i. f (a + (1 + i))) b
+    shifted = count_cong _ _ b (λ i h. ap f (let e : a + 1 + i ≡ a + (1 + i) = omega arith in e))
+
+    go : (t : Bool) → f a ≡ t → length (filter f (range_with_len (a + 1) b)) ≡ count (λ i. f (a + 1 + i)) b
+        → length (filter f (a ∷ range_with_len (a + 1) b)) ≡ count (λ i. f (a + i)) 1 + count (λ i. f (a + (1 + i))) b
+    go true e r = rw (add-zero a, e) (omega (arith, r ∙ shifted))
+    go false e r = rw (add-zero a, e) (omega (arith, r ∙ shifted))
+
+-- the rows at which the two tests differ are those that turn
+pub turned_rows : (thresholds before after : List Float) (k : ℕ)
+    → length (filter (λ i. not (beq (lt (at thresholds i) (at before i)) (lt (at thresholds i) (at after i)))) (range_with_len 0 k))
+    ≡ count (λ i. turns (at thresholds i) (at before i) (at after i)) k
+turned_rows thresholds before after k =
+    let f : ℕ → Bool = λ i. not (beq (lt (at thresholds i) (at before i)) (lt (at thresholds i) (at after i))) in
+    kept f 0 k
+    ∙ count_cong (λ i. f (0 + i)) (λ i. turns (at thresholds i) (at before i) (at after i)) k
+    (λ i h. ap f (let e : 0 + i ≡ i = omega arith in e) ∙ sym (differ (at thresholds i) (at before i) (at after i)))
 
 -- a count is at most what it runs over
 pub count_short : (f : ℕ → Bool) (k r : ℕ) → r ≡ count f k → r ≤ k

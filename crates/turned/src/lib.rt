@@ -24,12 +24,9 @@ fn margins_into(
     ensures { block.new ≡ tabulate (λ i. margin_at (read_of matrix.now bits.now n)
         (length weights.now) weights.now (from + i)) (length block.old) }
 {
-    fill(&mut block[..], 0.0);
-    let mut j = 0usize;
-    while j < weights.len() {
-        let w = weights[j];
-        add_rows(&mut block[..], from, matrix, bits, n, j, w);
-        j += 1;
+    fill(block, 0.0);
+    for (j, w) in weights.iter().enumerate() {
+        add_rows(block, from, matrix, bits, n, j, *w);
     }
 }
 
@@ -38,17 +35,13 @@ fn count_turned(before: &[f64], after: &[f64], thresholds: &[f64]) -> usize
     requires { (length after.now ≡ length before.now) × (length thresholds.now ≡ length before.now) }
     ensures { result ≡ turned_in before.now after.now thresholds.now }
 {
-    let mut k = 0usize;
-    let mut i = 0usize;
-    while i < before.len() {
-        let was = before[i] > thresholds[i];
-        let is = after[i] > thresholds[i];
-        if was != is {
-            k += 1;
-        }
-        i += 1;
-    }
-    k
+    (0..before.len())
+        .filter(|i| {
+            let was = before[*i] > thresholds[*i];
+            let is = after[*i] > thresholds[*i];
+            was != is
+        })
+        .count()
 }
 
 // How many words turn.
@@ -67,14 +60,11 @@ pub fn turned_of(
     let mut was = [0.0f64; 64];
     let mut is = [0.0f64; 64];
     let mut turned = 0usize;
-    let mut from = 0usize;
-    while from < n {
+    for from in (0..n).step_by(64) {
         let k = block_length(from, n, 64);
-        let e = from + k;
         margins_into(&mut was[..k], from, matrix, bits, n, before);
         margins_into(&mut is[..k], from, matrix, bits, n, after);
-        turned += count_turned(&was[..k], &is[..k], &thresholds[from..e]);
-        from = e;
+        turned += count_turned(&was[..k], &is[..k], &thresholds[from..from + k]);
     }
     turned
 }

@@ -3,14 +3,21 @@
 
 ghost use Rattle.std.specs.Prelude.{◌≡◌, ◌++◌, ◌≤◌, ◌<◌, ◌+◌, ◌*◌, ◌/◌, ◌%◌, length, drop};
 ghost use Rattle.seq.specs.Lists.{tabulate};
-ghost use Rattle.votes.specs.Signing.{signed_at, added_four};
+ghost use Rattle.votes.specs.Signing.{pair_at, signed_at, added_four};
 
-use limits::wide;
 use spare::bit;
 
+// The four signed pairs of t, in the order of their two bits.
+pub fn signed_pairs(t: f64) -> [f64; 8]
+    ensures { result ≡ tabulate (pair_at t) 8 }
+{
+    let m = -t;
+    [t, t, m, t, t, m, m, m]
+}
+
 // acc + the four that the nibble v signs, from row r on. All is read before a row is written, so that it compiles to sums of pairs.
-fn add_four(acc: &mut [f64], r: usize, pairs: &[f64], v: usize)
-    requires { (r + 4 ≤ length acc.old) × (v < 16) × (length pairs.now ≡ 8) }
+fn add_four(acc: &mut [f64], r: usize, pairs: &[f64; 8], v: usize)
+    requires { (r + 4 ≤ length acc.old) × (v < 16) }
     ensures { acc.new ≡ added_four acc.old r pairs.now v }
 {
     let a = acc[r] + pairs[2 * (v % 4)];
@@ -29,14 +36,11 @@ fn add_bytes(acc: &mut [f64], column: &[u8], k: usize, t: f64)
     ensures { acc.new ≡ tabulate (signed_at column.now t acc.old) (8 * k) ++ drop (8 * k)
         acc.old }
 {
-    let m = -t;
-    let pairs = [t, t, m, t, t, m, m, m];
-    let mut i = 0usize;
-    while i < k {
-        let b = wide(column[i]);
-        add_four(acc, 8 * i, &pairs[..], b % 16);
-        add_four(acc, 8 * i + 4, &pairs[..], b / 16);
-        i += 1;
+    let pairs = signed_pairs(t);
+    for (i, byte) in column[..k].iter().enumerate() {
+        let b = usize::from(*byte);
+        add_four(acc, 8 * i, &pairs, b % 16);
+        add_four(acc, 8 * i + 4, &pairs, b / 16);
     }
 }
 
@@ -48,9 +52,7 @@ pub fn add_signed(acc: &mut [f64], column: &[u8], n: usize, t: f64)
     let k = n / 8;
     add_bytes(acc, column, k, t);
     let either = [t, -t];
-    let mut i = 8 * k;
-    while i < n {
-        acc[i] = acc[i] + either[bit(wide(column[i / 8]), i % 8)];
-        i += 1;
+    for i in 8 * k..n {
+        acc[i] += either[bit(usize::from(column[i / 8]), i % 8)];
     }
 }

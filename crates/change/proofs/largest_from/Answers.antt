@@ -1,20 +1,16 @@
--- `change::largest_from` meets its contract: after i turns it is the largest magnitude of the first i rows, from what it was.
-use Rattle.change.specs.Largest.{max_abs_from}
-use mathlib.Core.Path.{◌≡◌, refl, ◌∙◌}
-use native.Mathlib.Omega.{arith}
-use native.Mathlib.Numerals.{add-one}
-use lib.ListN.{length}
+-- `change::largest_from` meets its contract: the fold takes the rows in order.
+use borrow.Author.Tests.{tests}
+use mathlib.Core.Path.{◌∙◌}
+use Rattle.std.proofs.Common.{rules}
+use Rattle.std.proofs.lemmas.Iterator.{YieldsList-from_slice}
+use Rattle.std.proofs.lemmas.Iterator.Consumers.{fold_from_yields_List}
+use Rattle.ieee.specs.Magnitude.{abs_of, larger_of}
+use Rattle.change.proofs.Largest.{largest_whole}
 use Rattle.change.proofs.largest_from.Goals as goal
-
-pub loop-i-init : goal.loop-i-init
-unfolding max_abs_from
-loop-i-init c = (omega arith, refl)
-
-pub loop-i-preserved : goal.loop-i-preserved
-unfolding max_abs_from
-loop-i-preserved c = (omega arith, c.larger-r.ensures ∙ rw (add-one, c.loop-i.invariant.1, c.abs.ensures))
 
 pub returns : goal.returns
 returns c =
-    let done : c.loop-i.i ≡ length c.args.block.now = omega arith in
-    rw (← done) c.loop-i.invariant.1
+    let a = c.args in
+    fold_from_yields_List _ (λ r x. larger_of r (abs_of x)) a.most c.fold.result c.fold.ensures.ran (YieldsList-from_slice a.block.now cc)
+    (λ r x b q k. search (rules, tests))
+    ∙ largest_whole a.most a.block.now

@@ -1,16 +1,18 @@
--- `change::next_moved` meets its contract: at every place that the loop has left behind the weights do not differ.
-use native.Mathlib.Omega.{arith}
-use Rattle.change.proofs.ChangeMore.{unmoved_none, unmoved_more}
+-- `change::next_moved` meets its contract: before the place that is found the weights do not differ.
+use borrow.Author.Tests.{tests}
+use mathlib.Core.Bool.{false}
+use mathlib.Core.Path.{◌≡◌}
+use lib.Ieee.{binary64, sub, ne}
+use Rattle.std.proofs.Common.{rules}
+use Rattle.std.proofs.lemmas.Iterator.{first_from_Range}
+use Rattle.seq.specs.Sums.{plus_zero, at}
+use Rattle.change.proofs.ChangeMore.{unmoved-first}
 use Rattle.change.proofs.next_moved.Goals as goal
 
-pub loop-j-init : goal.loop-j-init
-loop-j-init c = unmoved_none _ _ _
-
-pub returns-then-before-j : goal.returns-then-before-j
-returns-then-before-j c = (c.loop-j.invariant, λ h. c.if-before-j.true)
-
-pub loop-j-preserved : goal.loop-j-preserved
-loop-j-preserved c = unmoved_more c.loop-j.invariant c.loop-j-test.true c.if-before-j.false
-
-pub returns : goal.returns
-returns c = (c.loop-j.invariant, λ h. absurd (omega arith))
+pub returns-clause-same : goal.returns-clause-same
+returns-clause-same c =
+    let before = c.args.before.now in
+    let after = c.args.after.now in
+    unmoved-first c.find.result
+    (first_from_Range _ _ _ c.find.result (λ k. Unit {0}) (λ k. ne (sub binary64 (at before k) (at after k)) plus_zero ≡ false) c.find.ensures.ran
+    (λ x q k. tt) (λ x q k. search (rules, tests)))

@@ -1,20 +1,18 @@
--- `chosen::next_live` meets its contract: every place that the loop has left behind adds nothing.
-use Rattle.chosen.proofs.Skipping.{passed_none, passed-more}
+-- `chosen::next_live` meets its contract: every place before the first that is found adds nothing.
+use borrow.Author.Tests.{tests}
+use lib.Dec.{T}
+use Rattle.std.proofs.Common.{rules}
+use Rattle.std.proofs.lemmas.Iterator.{first_from_Range}
+use Rattle.seq.specs.Sums.{at}
+use Rattle.ieee.specs.Flat.{is_zero}
+use lib.Ieee.Scale.{finite}
+use Rattle.chosen.proofs.Skipping.{nothing_there, passed-first}
 use Rattle.chosen.proofs.next_live.Goals as goal
 
-pub loop-p-init : goal.loop-p-init
-loop-p-init c = passed_none _ _ _
-
-pub returns-then-g-p : goal.returns-then-g-p
-returns-then-g-p c = c.loop-p.invariant
-
-pub returns-then-not-is_finite : goal.returns-then-not-is_finite
-returns-then-not-is_finite c = c.loop-p.invariant
-
-pub loop-p-preserved : goal.loop-p-preserved
-loop-p-preserved c = passed-more c.loop-p.invariant
-    c.loop-p-test.true c.if-g-p.false
-    (rw (← c.is_finite.ensures, c.if-not-is_finite.false))
-
-pub returns : goal.returns
-returns c = c.loop-p.invariant
+pub returns-clause-passed : goal.returns-clause-passed
+returns-clause-passed c =
+    let g = c.args.g.now in
+    let scale = c.args.scale.now in
+    passed-first c.find.result
+    (first_from_Range _ _ _ c.find.result (λ k. Unit {0}) (λ k. T (is_zero (at g k)) × T (finite (at scale k))) c.find.ensures.ran
+    (λ x q k. tt) (λ x q k. search (rules, tests, nothing_there)))

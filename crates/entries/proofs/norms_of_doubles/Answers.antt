@@ -1,10 +1,11 @@
--- `entries::norms_of_doubles` meets its contract: after p turns each row has the sum over the first p columns, and a turn adds one term to each.
+-- `entries::norms_of_doubles` meets its contract: after each turn each row has the sum over the columns so far, and a turn adds one term to each.
 use mathlib.Core.List.{[]}
 use mathlib.Core.Path.{◌≡◌, refl, ap, ◌∙◌}
-use native.Mathlib.Nat.{add-sub_cancel_left}
 use native.Mathlib.Omega.{arith}
-use lib.Ieee.{mul, binary64}
-use lib.ListN.{length, get_or}
+use lib.Ieee.{nan, mul, binary64}
+use lib.ListN.{length, get_or, length-append}
+use Rattle.std.proofs.Common.{rules}
+use Rattle.std.proofs.lemmas.Slice.Zip.{zip_turn, zip_end}
 use Rattle.seq.specs.Lists.{tabulate}
 use Rattle.seq.specs.Sums.{sum_from, plus_zero, at}
 use Rattle.columns.specs.Kernels.{plus_squares}
@@ -13,53 +14,38 @@ use Rattle.chosen.specs.Entries.{entry_of}
 use Rattle.entries.proofs.Reading.{one_more}
 use Rattle.entries.proofs.norms_of_doubles.Goals as goal
 
-pub loop-p-init : goal.loop-p-init
+pub loop-j-init : goal.loop-j-init
 unfolding sum_from
-loop-p-init c = (omega arith, refl, rw c.fill.auto.a c.fill.ensures)
+loop-j-init c = rw c.fill.auto.a c.fill.ensures
 
-pub overflow_cast-a : goal.overflow_cast-a
-overflow_cast-a c = omega (arith, c.type_inv.cols c.loop-p.p)
-
-pub overflow_mul-a : goal.overflow_mul-a
-overflow_mul-a c = omega (
-  arith,
-  (c.requires.inside
-      c.loop-p.p c.loop-p-test.true).doubles refl,
-)
-
-pub overflow_add-e : goal.overflow_add-e
-overflow_add-e c = omega (
-  arith,
-  (c.requires.inside
-      c.loop-p.p c.loop-p-test.true).doubles refl,
-)
-
-pub bounds-scale-p : goal.bounds-scale-p
-bounds-scale-p c = omega (arith, c.requires.paired)
-
-pub offset_bounds-matrix-a : goal.offset_bounds-matrix-a
-offset_bounds-matrix-a c =
-    omega (arith, (c.requires.inside c.loop-p.p c.loop-p-test.true).doubles refl)
-
-pub slice_bounds-add_squares-end : goal.slice_bounds-add_squares-end
-slice_bounds-add_squares-end c =
-    omega (arith, (c.requires.inside c.loop-p.p c.loop-p-test.true).doubles refl)
-
-pub loop-p-preserved : goal.loop-p-preserved
-loop-p-preserved c =
+pub doubles_of-requires : goal.doubles_of-requires
+doubles_of-requires c =
     let a = c.args in
-    let l = c.loop-p in
-    let inside = (c.requires.inside l.p c.loop-p-test.true).doubles refl in
-    let e = entry_of a.matrix.now [] a.n a.cols.now a.scale.now in (
-      omega arith,
-      c.add_squares.auto.acc ∙ l.invariant.1,
-      simp add-sub_cancel_left at c.add_squares.ensures
-          ∙ ap (λ col. tabulate (plus_squares col l.acc) (length l.acc))
-          (doubles_are a.matrix.now [] a.n (get_or a.cols.now l.p 0) (at a.scale.now l.p) refl inside)
-          ∙ one_more plus_zero (λ q i. mul binary64 (e q i) (e q i)) l.acc l.p _ l.invariant.2,
-    )
+    let l = c.loop-j in
+    let here = zip_turn a.cols.now a.scale.now l.yielded c.into_iter-j-iterator.result l.j-iterator c.next.new.self c.next.result
+    (search rules) (search rules) l.yielded_by (c.in-Some.j, c.in-Some.s) c.in-Some.is c.next.ensures.steps in
+    rw (here.2 0) ((c.requires.inside (length l.yielded) here.0).doubles refl)
+
+pub loop-j-preserved : goal.loop-j-preserved
+loop-j-preserved c =
+    let a = c.args in
+    let l = c.loop-j in
+    let k = length l.yielded in
+    let here = zip_turn a.cols.now a.scale.now l.yielded c.into_iter-j-iterator.result l.j-iterator c.next.new.self c.next.result
+    (search rules) (search rules) l.yielded_by (c.in-Some.j, c.in-Some.s) c.in-Some.is c.next.ensures.steps in
+    let inside = (c.requires.inside k here.0).doubles refl in
+    let e = entry_of a.matrix.now [] a.n a.cols.now a.scale.now in
+    rw (length-append l.yielded _)
+    (rw (c.doubles_of.ensures.column, here.2 0, here.3 nan) at c.add_squares.ensures
+    ∙ ap (λ col. tabulate (plus_squares col l.acc) (length l.acc))
+    (doubles_are a.matrix.now [] a.n (get_or a.cols.now k 0) (at a.scale.now k) refl inside)
+    ∙ one_more plus_zero (λ q i. mul binary64 (e q i) (e q i)) l.acc k _ l.invariant)
 
 pub returns : goal.returns
 returns c =
-    let all : c.loop-p.p ≡ length c.args.cols.now = omega arith in
-    rw (← all, ← c.fill.auto.a) c.loop-p.invariant.2
+    let a = c.args in
+    let l = c.loop-j in
+    let end = zip_end a.cols.now a.scale.now l.yielded c.into_iter-j-iterator.result l.j-iterator c.next.new.self c.next.result
+    (search rules) (search rules) l.yielded_by c.in-None.is c.next.ensures.steps in
+    let all : length l.yielded ≡ length a.cols.now = omega (arith, c.requires.paired, end) in
+    rw (← all, ← c.fill.auto.a) l.invariant

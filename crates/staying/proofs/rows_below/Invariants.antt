@@ -1,5 +1,5 @@
 -- `staying::rows_below` meets its contract: while the loop runs the largest magnitude of the rows so far is below the bound.
-use Prim.Native.Nat.{◌*◌, ◌-◌, ◌≤◌}
+use Prim.Native.Nat.{◌*◌}
 use mathlib.Core.Bool.{true}
 use mathlib.Core.Path.{◌≡◌}
 use lib.Ieee.{lt}
@@ -8,7 +8,4 @@ use Rattle.staying.specs.Below.{less_signed}
 use Rattle.staying.proofs.rows_below.Given as goal
 
 abbrev pub invariant-loop-i : goal.invariant-loop-i
-invariant-loop-i l = (l.i ≤ l.k) × (lt (max_abs_to (less_signed l.column l.t l.ax) (8 * l.i)) l.bound ≡ true)
-
-abbrev pub decreases-loop-i : goal.decreases-loop-i
-decreases-loop-i l = l.k - l.i
+invariant-loop-i l = lt (max_abs_to (less_signed l.column l.t l.ax) (8 * l.i)) l.bound ≡ true

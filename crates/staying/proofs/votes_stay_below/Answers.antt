@@ -24,19 +24,14 @@ returns-then-not-bound c = let a = c.args in
     sym (never_below (less_column (scaled_votes a.column.now a.n a.s) a.t a.ax.now) (λ j. sub-fits binary64 _ _) a.bound b _
     c.if-not-bound.true)
 
-pub rows_below-i-requires : goal.rows_below-i-requires
-rows_below-i-requires c = (omega arith, omega arith, c.if-not-bound.false)
-
 pub loop-i-init : goal.loop-i-init
 loop-i-init c = let a = c.args in
     let s : T (fits binary64 a.s) = subst T (sym c.well_formed.1.1.1.0.1) tt in
     let b : T (fits binary64 a.bound) = subst T (sym c.well_formed.1.1.1.1.1.0.1) tt in
-    let low : c.rows_below-i.result ≤ a.n = omega (arith, c.rows_below-i.ensures.0) in (
-      low,
-      ap (λ (z : Float). lt z a.bound) (sym (max_cong (less_signed a.column.now (mul binary64 a.t a.s) a.ax.now)
-          (less_column (scaled_votes a.column.now a.n a.s) a.t a.ax.now) c.rows_below-i.result
-          (λ i l. votes_row a.column.now a.n a.s s a.t a.ax.now i _ (omega arith) refl))) ∙ c.rows_below-i.ensures.1,
-    )
+    let low : c.rows_below-passed.result ≤ a.n = omega (arith, c.rows_below-passed.ensures.0) in
+    ap (λ (z : Float). lt z a.bound) (sym (max_cong (less_signed a.column.now (mul binary64 a.t a.s) a.ax.now)
+    (less_column (scaled_votes a.column.now a.n a.s) a.t a.ax.now) c.rows_below-passed.result
+    (λ i l. votes_row a.column.now a.n a.s s a.t a.ax.now i _ (omega arith) refl))) ∙ c.rows_below-passed.ensures.1
 
 pub returns-then-abs-bound : goal.returns-then-abs-bound
 returns-then-abs-bound c =
@@ -44,7 +39,7 @@ returns-then-abs-bound c =
     let s : T (fits binary64 a.s) = subst T (sym c.well_formed.1.1.1.0.1) tt in
     let b : T (fits binary64 a.bound) = subst T (sym c.well_formed.1.1.1.1.1.0.1) tt in
     let i = c.loop-i.i in
-    let r = either_row (mul binary64 a.t a.s) a.column.now i c.wide.result c.bit.result c.wide.ensures
+    let r = either_row (mul binary64 a.t a.s) a.column.now i c.from.result c.bit.result c.from.ensures
     c.bit.ensures in
     let e : le a.bound (abs_of (less_column (scaled_votes a.column.now a.n a.s) a.t a.ax.now i))
     ≡ true = rw (← votes_row a.column.now a.n a.s s a.t a.ax.now i _ c.loop-i-test.true r, ← c.abs.ensures)
@@ -57,29 +52,22 @@ loop-i-preserved c =
     let s : T (fits binary64 a.s) = subst T (sym c.well_formed.1.1.1.0.1) tt in
     let b : T (fits binary64 a.bound) = subst T (sym c.well_formed.1.1.1.1.1.0.1) tt in
     let i = c.loop-i.i in
-    let r = either_row (mul binary64 a.t a.s) a.column.now i c.wide.result c.bit.result c.wide.ensures
+    let r = either_row (mul binary64 a.t a.s) a.column.now i c.from.result c.bit.result c.from.ensures
     c.bit.ensures in
     let e : le a.bound (abs_of (less_column (scaled_votes a.column.now a.n a.s) a.t a.ax.now i))
     ≡ false = rw (← votes_row a.column.now a.n a.s s a.t a.ax.now i _ c.loop-i-test.true r, ← c.abs.ensures)
-    c.if-abs-bound.false in (
-      omega arith,
-      still_below (less_column (scaled_votes a.column.now a.n a.s) a.t a.ax.now) (λ j. sub-fits binary64 _ _) a.bound b i
-          c.loop-i.invariant.1 e,
-    )
+    c.if-abs-bound.false in
+    still_below (less_column (scaled_votes a.column.now a.n a.s) a.t a.ax.now) (λ j. sub-fits binary64 _ _) a.bound b i
+    c.loop-i.invariant e
 
-pub returns-then-i-ax : goal.returns-then-i-ax
-returns-then-i-ax c =
+pub returns-then-n-ax : goal.returns-then-n-ax
+returns-then-n-ax c =
     let a = c.args in
     let s : T (fits binary64 a.s) = subst T (sym c.well_formed.1.1.1.0.1) tt in
     let b : T (fits binary64 a.bound) = subst T (sym c.well_formed.1.1.1.1.1.0.1) tt in
-    let i = c.loop-i.i in
-    let all : length a.ax.now ≡ i + 1 = omega arith in
-    let e : c.abs-then-i-ax-2.result ≡ abs_of (less_column (scaled_votes a.column.now a.n a.s) a.t a.ax.now i) = c.abs-then-i-ax-2.ensures
-    ∙ rw (votes_under a.column.now a.n a.s s i (omega arith), c.abs-then-i-ax.ensures) in
-    rw (e, all) (last-below (less_column (scaled_votes a.column.now a.n a.s) a.t a.ax.now) (λ j. sub-fits binary64 _ _) a.bound b i
-    c.loop-i.invariant.1)
-
-pub returns : goal.returns
-returns c =
-    let all : c.loop-i.i ≡ length c.args.ax.now = omega arith in
-    sym (rw (← all) c.loop-i.invariant.1)
+    let done : c.loop-i.i ≡ a.n = omega (arith, c.rows_below-passed.ensures.0) in
+    let all : length a.ax.now ≡ a.n + 1 = omega arith in
+    let e : c.abs-then-n-ax-2.result ≡ abs_of (less_column (scaled_votes a.column.now a.n a.s) a.t a.ax.now a.n) = c.abs-then-n-ax-2.ensures
+    ∙ rw (votes_under a.column.now a.n a.s s a.n (omega arith), c.abs-then-n-ax.ensures) in
+    rw (e, all) (last-below (less_column (scaled_votes a.column.now a.n a.s) a.t a.ax.now) (λ j. sub-fits binary64 _ _) a.bound b a.n
+    (rw done at c.loop-i.invariant))

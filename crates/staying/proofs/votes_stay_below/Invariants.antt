@@ -1,5 +1,4 @@
 -- `staying::votes_stay_below` meets its contract: the rows that `rows_below` passed are below the bound, and the loop goes on from there.
-use Prim.Native.Nat.{◌-◌, ◌≤◌}
 use mathlib.Core.Bool.{true}
 use mathlib.Core.Path.{◌≡◌}
 use lib.Ieee.{lt}
@@ -9,7 +8,4 @@ use Rattle.staying.specs.Scaling.{scaled_votes}
 use Rattle.staying.proofs.votes_stay_below.Given as goal
 
 abbrev pub invariant-loop-i : goal.invariant-loop-i
-invariant-loop-i l = (l.i ≤ l.n) × (lt (max_abs_to (less_column (scaled_votes l.column l.n l.s) l.t l.ax) l.i) l.bound ≡ true)
-
-abbrev pub decreases-loop-i : goal.decreases-loop-i
-decreases-loop-i l = l.n - l.i
+invariant-loop-i l = lt (max_abs_to (less_column (scaled_votes l.column l.n l.s) l.t l.ax) l.i) l.bound ≡ true

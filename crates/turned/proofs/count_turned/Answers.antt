@@ -1,35 +1,26 @@
--- `turned::count_turned` meets its contract: after i turns k is the count of the first i rows.
-use Rattle.seq.specs.Sums.{at}
-use Rattle.seq.specs.Keep.{count}
-use Rattle.turned.specs.Turned.{turns}
-use Rattle.turned.proofs.Counting.{counts, skips, differ}
-use mathlib.Core.Bool.{Bool}
-use Prim.Native.Nat.{ℕ, ◌+◌}
-use mathlib.Core.Path.{◌≡◌, refl, ap, ◌∙◌}
+-- `turned::count_turned` meets its contract: the filter keeps the rows that turn.
+use borrow.Author.Tests.{tests}
+use mathlib.Core.Bool.{not, beq}
+use Prim.Native.Nat.{◌-◌}
+use mathlib.Core.Path.{◌≡◌, ◌∙◌}
 use native.Mathlib.Omega.{arith}
+use lib.Ieee.{lt}
 use lib.ListN.{length}
-use Rattle.turned.proofs.count_turned.Goals.{then-was-is, else-was-is}
+use Rattle.std.proofs.Common.{rules}
+use Rattle.std.proofs.lemmas.Iterator.{YieldsList-from_range}
+use Rattle.std.proofs.lemmas.Iterator.Consumers.{YieldsList-from_filter, count_from_yields_List}
+use Rattle.seq.specs.Sums.{at}
+use Rattle.turned.proofs.Counting.{turned_rows}
 use Rattle.turned.proofs.count_turned.Goals as goal
-
-pub loop-i-init : goal.loop-i-init
-unfolding count
-loop-i-init c = (omega arith, omega arith, refl)
-
-pub loop-i-preserved : goal.loop-i-preserved
-loop-i-preserved c =
-    let a = c.args in
-    let l = c.loop-i in
-    let f : ℕ → Bool = λ q. turns (at a.thresholds.now q) (at a.before.now q) (at a.after.now q) in
-    elim c.if-was-is.branch [
-      | then-was-is w ↦ rw w.k-is (
-        omega arith,
-        omega arith,
-        ap (λ (x : ℕ). x + 1) l.invariant.2 ∙ counts f l.i (differ _ _ _ ∙ w.if-was-is.true),
-      )
-      | else-was-is w ↦ rw w.k-is (omega arith, omega arith, l.invariant.2 ∙ skips f l.i (differ _ _ _ ∙ w.if-was-is.false))
-    ]
 
 pub returns : goal.returns
 returns c =
-    let all : c.loop-i.i ≡ length c.args.before.now = omega arith in
-    rw (← all) c.loop-i.invariant.2
+    let before = c.args.before.now in
+    let after = c.args.after.now in
+    let thresholds = c.args.thresholds.now in
+    let all : length before - 0 ≡ length before = omega arith in
+    count_from_yields_List c.filter.result c.count.result c.count.ensures.ran
+    (YieldsList-from_filter _ (λ i. not (beq (lt (at thresholds i) (at before i)) (lt (at thresholds i) (at after i))))
+    (YieldsList-from_range 0 (length before) (length before) c.filter.ensures.source all) c.filter.ensures.closure
+    (λ x r q k. search (rules, tests)))
+    ∙ turned_rows thresholds before after (length before)

@@ -1,6 +1,5 @@
 -- `twovotes::add_two_signed` meets its contract: whatever vector the bytes were filled into, the loop fills on.
-use Prim.Native.Nat.{◌-◌, ◌≤◌}
-use mathlib.Core.Path.{◌≡◌}
+use Prim.Native.Nat.{◌≤◌}
 use mathlib.Core.List.{List}
 use lib.Ieee.{Float}
 use lib.ListN.{length}
@@ -9,9 +8,5 @@ use Rattle.votes.specs.Signing.{signed_two}
 use Rattle.twovotes.proofs.add_two_signed.Given as goal
 
 abbrev pub invariant-loop-i : goal.invariant-loop-i
-invariant-loop-i l = (l.i ≤ l.n) × (length l.acc ≡ length l.initial.acc)
-    × ((w : List Float) → l.n ≤ length w → Filled (signed_two l.first l.t l.second l.u w) w l.initial.i l.initial.acc
-    → Filled (signed_two l.first l.t l.second l.u w) w l.i l.acc)
-
-abbrev pub decreases-loop-i : goal.decreases-loop-i
-decreases-loop-i l = l.n - l.i
+invariant-loop-i l = (w : List Float) → l.n ≤ length w → Filled (signed_two l.first l.t l.second l.u w) w l.initial.i l.initial.acc
+    → Filled (signed_two l.first l.t l.second l.u w) w l.i l.acc

@@ -1,6 +1,5 @@
 -- `votes::add_signed` meets its contract: whatever vector the bytes were filled into, the loop fills on.
-use Prim.Native.Nat.{◌-◌, ◌≤◌}
-use mathlib.Core.Path.{◌≡◌}
+use Prim.Native.Nat.{◌≤◌}
 use mathlib.Core.List.{List}
 use lib.Ieee.{Float}
 use lib.ListN.{length}
@@ -9,9 +8,5 @@ use Rattle.votes.specs.Signing.{signed_at}
 use Rattle.votes.proofs.add_signed.Given as goal
 
 abbrev pub invariant-loop-i : goal.invariant-loop-i
-invariant-loop-i l = (l.i ≤ l.n) × (length l.acc ≡ length l.initial.acc)
-    × ((w : List Float) → l.n ≤ length w → Filled (signed_at l.column l.t w) w l.initial.i l.initial.acc
-    → Filled (signed_at l.column l.t w) w l.i l.acc)
-
-abbrev pub decreases-loop-i : goal.decreases-loop-i
-decreases-loop-i l = l.n - l.i
+invariant-loop-i l = (w : List Float) → l.n ≤ length w → Filled (signed_at l.column l.t w) w l.initial.i l.initial.acc
+    → Filled (signed_at l.column l.t w) w l.i l.acc
