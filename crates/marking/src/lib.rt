@@ -12,18 +12,13 @@ pub fn is_each_once(rows: &[u32], marks: &mut [u32]) -> bool
     requires { length marks.old ≡ length rows.now }
     ensures { Tells result (EachOnce (length rows.now) rows.now) }
 {
-    fill(&mut marks[..], 0);
-    let mut i = 0usize;
-    while i < rows.len() {
-        let x = rows[i] as usize;
-        if x >= marks.len() {
-            return false;
-        }
-        if marks[x] != 0 {
+    fill(marks, 0);
+    for row in rows {
+        let x = *row as usize;
+        if x >= marks.len() || marks[x] != 0 {
             return false;
         }
         marks[x] = 1;
-        i += 1;
     }
     true
 }
@@ -33,10 +28,7 @@ pub fn place(changes: &mut [f64], keys: &[f64], rows: &[u32])
     requires { (length changes.old ≡ length rows.now) × Within rows.now (length keys.now) }
     ensures { changes.new ≡ changes_at keys.now rows.now }
 {
-    let mut k = 0usize;
-    while k < changes.len() {
-        let r = rows[k] as usize;
-        changes[k] = keys[r];
-        k += 1;
+    for (k, change) in changes.iter_mut().enumerate() {
+        *change = keys[rows[k] as usize];
     }
 }
