@@ -142,22 +142,15 @@ fn weight_of(kind: u64, u: f64) -> f64 {
     if u < 0.5 { 0.0 } else { u }
 }
 
-fn fill_entries(a: &mut [f64], kind: u64, rng: SplitMix64) -> SplitMix64 {
-    let mut r = rng;
+fn fill_entries(a: &mut [f64], kind: u64, rng: &mut SplitMix64) {
     for x in a.iter_mut() {
-        let d = r.uniform();
-        *x = entry_of(kind, d.value);
-        r = d.rng;
+        *x = entry_of(kind, rng.uniform());
     }
-    r
 }
 
-fn fill_weights(a: &mut [f64], kind: u64, rng: SplitMix64) {
-    let mut r = rng;
+fn fill_weights(a: &mut [f64], kind: u64, rng: &mut SplitMix64) {
     for x in a.iter_mut() {
-        let d = r.uniform();
-        *x = weight_of(kind, d.value);
-        r = d.rng;
+        *x = weight_of(kind, rng.uniform());
     }
 }
 
@@ -191,8 +184,9 @@ fn make<W: Write>(
     requires { (k < 37) × (m ≤ 64) }
 {
     let seed = k as u64;
-    let rng = fill_entries(&mut matrix[..], ENTRIES[k], SplitMix64::new(seed, 1));
-    fill_weights(&mut weights[..], WEIGHTS[k], rng);
+    let mut rng = SplitMix64::new(seed, 1);
+    fill_entries(&mut matrix[..], ENTRIES[k], &mut rng);
+    fill_weights(&mut weights[..], WEIGHTS[k], &mut rng);
     let mut output = [0.0f64; 64];
     answer(out, &matrix[..], &weights[..], m, n, k, &mut output[..m])
 }

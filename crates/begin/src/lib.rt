@@ -35,9 +35,8 @@ fn block_first(
 {
     let base = blocked.len() + blocked.len() + blocked.len();
     let mut count = 0usize;
-    let mut k = 0usize;
-    while k < first.len() {
-        let i = first[k] as usize;
+    for &row in first {
+        let i = row as usize;
         blocked[i] = 1;
         count = block_row(
             &mut numbers[base..],
@@ -50,7 +49,6 @@ fn block_first(
             scale,
             &mut v[..],
         );
-        k += 1;
     }
     count
 }

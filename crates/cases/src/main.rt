@@ -162,15 +162,11 @@ fn supports_of_4<W: Write>(out: &mut W) -> io::Result<()> {
     )
 }
 
-// Entries or weights in [-1, 1], and the generator after them.
-fn fill(a: &mut [f64], rng: SplitMix64) -> SplitMix64 {
-    let mut r = rng;
+// Entries or weights in [-1, 1].
+fn fill(a: &mut [f64], rng: &mut SplitMix64) {
     for x in a.iter_mut() {
-        let d = r.uniform();
-        *x = 2.0 * d.value - 1.0;
-        r = d.rng;
+        *x = 2.0 * rng.uniform() - 1.0;
     }
-    r
 }
 
 // C9: a support of 100 and target 99.
@@ -178,8 +174,9 @@ fn hundred<W: Write>(out: &mut W, seed: u64) -> io::Result<()> {
     let mut matrix = [0.0f64; 400];
     let mut weights = [0.0f64; 100];
     let mut output = [0.0f64; 100];
-    let rng = fill(&mut matrix[..], SplitMix64::new(seed, 1));
-    fill(&mut weights[..], rng);
+    let mut rng = SplitMix64::new(seed, 1);
+    fill(&mut matrix[..], &mut rng);
+    fill(&mut weights[..], &mut rng);
     put(out, b"C9\tsupport 100, target 99, seed ")?;
     print_count(out, seed)?;
     tab(out)?;
@@ -338,8 +335,9 @@ fn random_by<W: Write>(
 ) -> io::Result<()>
     requires { m ≤ 16 }
 {
-    let rng = fill(&mut matrix[..], SplitMix64::new(seed, 1));
-    fill(&mut weights[..], rng);
+    let mut rng = SplitMix64::new(seed, 1);
+    fill(&mut matrix[..], &mut rng);
+    fill(&mut weights[..], &mut rng);
     by_target(out, &matrix[..], m, n, &weights[..], seed, target)?;
     by_allowance(out, &matrix[..], m, n, &weights[..], seed, allowance)
 }

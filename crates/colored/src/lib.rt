@@ -4,7 +4,7 @@
 use draw::SplitMix64;
 
 // What a colouring leaves beside the colours: how many directions were drawn, how many sweeps made, and the generator after it.
-#[derive(Drop)]
+#[derive(Clone, Copy)]
 pub struct Counted {
     pub directions: usize,
     pub sweeps: usize,

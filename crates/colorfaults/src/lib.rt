@@ -48,9 +48,7 @@ pub fn write_colours(output: &mut [i8], x: &[f64])
     requires { length output.old ≡ length x.now }
     ensures { output.new ≡ tabulate (colour_at x.now) (length x.now) }
 {
-    let mut j = 0usize;
-    while j < output.len() {
-        output[j] = if x[j] > 0.0 { 1 } else { -1 };
-        j += 1;
+    for (j, colour) in output.iter_mut().enumerate() {
+        *colour = if x[j] > 0.0 { 1 } else { -1 };
     }
 }

@@ -3,7 +3,6 @@
 
 ghost use Rattle.std.specs.Prelude.{◌≡◌, ◌≤◌, ◌*◌, ◌+◌, length};
 ghost use Rattle.seq.specs.Sums.{plus_zero};
-ghost use Rattle.walked.specs.Walk.{free_ones};
 ghost use Rattle.colored.specs.Coloring.{coloring_of};
 ghost use Rattle.chosen.specs.Entries.{entry_of};
 ghost use Rattle.chosen.specs.ChosenColumns.{Chosen};
@@ -17,29 +16,7 @@ use phasing::next_phase;
 use search::local_search;
 use seq::fill;
 
-// How many directions were drawn, and the generator after them.
-#[derive(Drop)]
-struct Drawn {
-    directions: usize,
-    rng: SplitMix64,
-}
-
-// How many marks are set.
-fn count_free(free: &[u32]) -> usize
-    ensures { result ≡ free_ones free.now }
-{
-    let mut l = 0usize;
-    let mut i = 0usize;
-    while i < free.len() {
-        if free[i] == 1 {
-            l += 1;
-        }
-        i += 1;
-    }
-    l
-}
-
-// Phases until no coordinate is free; the directions of all of them are counted. x is all 0.0, free all set and A x all 0.0.
+// Phases until no coordinate is free; how many directions they drew. x is all 0.0, free all set and A x all 0.0.
 // The arrays are room that the phases share.
 fn walk_to_end(
     numbers: &mut [f64],
@@ -51,13 +28,13 @@ fn walk_to_end(
     n: usize,
     cols: &[u32],
     scale: &[f64],
-    rng: SplitMix64,
-) -> Drawn
+    rng: &mut SplitMix64,
+) -> usize
     requires { Chosen matrix.now bits.now n cols.now scale.now (length blocked.old) × Roomy (length cols.now) numbers.old
         blocked.old x.old free.old 0 × Fresh (length cols.now) (length blocked.old) numbers.old x.old free.old }
     ensures { WalkedAs (entry_of matrix.now bits.now n cols.now scale.now)
-        (length cols.now) (length blocked.old) rng numbers.new x.new free.new
-        result.rng result.directions }
+        (length cols.now) (length blocked.old) rng.old numbers.new x.new free.new
+        rng.new result }
 {
     let mut places = [0u32; 256];
     let mut subcols = [0u32; 256];
@@ -65,10 +42,8 @@ fn walk_to_end(
     let mut subx = [0.0f64; 256];
     let mut subfree = [0u32; 256];
     let mut g = [0.0f64; 256];
-    let mut r = rng;
     let mut directions = 0usize;
-    let mut left = count_free(&free[..]);
-    while left > 0 {
+    while free.contains(&1) {
         let next = next_phase(
             numbers,
             blocked,
@@ -79,7 +54,7 @@ fn walk_to_end(
             n,
             cols,
             scale,
-            r,
+            *rng,
             &mut places[..],
             &mut subcols[..],
             &mut subscale[..],
@@ -87,15 +62,13 @@ fn walk_to_end(
             &mut subfree[..],
             &mut g[..],
         );
-        r = next.at.rng;
-        let drawn = next.directions;
-        directions += drawn;
-        left = count_free(&free[..]);
+        *rng = next.at.rng;
+        directions += next.directions;
     }
-    Drawn { directions, rng: r }
+    directions
 }
 
-// The whole walk, from x = 0 with every coordinate free.
+// The whole walk, from x = 0 with every coordinate free; how many directions it drew.
 fn walk_anew(
     numbers: &mut [f64],
     blocked: &mut [u32],
@@ -106,13 +79,13 @@ fn walk_anew(
     n: usize,
     cols: &[u32],
     scale: &[f64],
-    rng: SplitMix64,
-) -> Drawn
+    rng: &mut SplitMix64,
+) -> usize
     requires { Chosen matrix.now bits.now n cols.now scale.now (length blocked.old) × Roomy (length cols.now) numbers.old
         blocked.old x.old free.old 0 }
     ensures { WalkedAs (entry_of matrix.now bits.now n cols.now scale.now)
-        (length cols.now) (length blocked.old) rng numbers.new x.new free.new
-        result.rng result.directions }
+        (length cols.now) (length blocked.old) rng.old numbers.new x.new free.new
+        rng.new result }
 {
     let rows = blocked.len();
     fill(&mut x[..], 0.0);
@@ -162,7 +135,8 @@ pub fn coloring(
     let k = cols.len();
     let rows = blocked.len();
     let mut free = [0u32; 256];
-    let w = walk_anew(
+    let mut after = rng;
+    let directions = walk_anew(
         &mut numbers[..],
         blocked,
         &mut x[..],
@@ -172,13 +146,12 @@ pub fn coloring(
         n,
         cols,
         scale,
-        rng,
+        &mut after,
     );
     let sweeps = search_anew(&mut numbers[..rows], x, matrix, bits, n, cols, scale);
-    let r = w.rng;
     Counted {
-        directions: w.directions,
+        directions,
         sweeps,
-        rng: r,
+        rng: after,
     }
 }

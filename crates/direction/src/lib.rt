@@ -12,12 +12,10 @@ use ieee::{clamp, signum, smaller};
 pub fn turn_if(v: &mut [f64], t: bool)
     ensures { v.new ≡ turned t v.old }
 {
-    let mut i = 0usize;
-    while i < v.len() {
-        if t {
-            v[i] = -v[i];
+    if t {
+        for x in v.iter_mut() {
+            *x = -*x;
         }
-        i += 1;
     }
 }
 
@@ -26,15 +24,11 @@ pub fn reach(x: &[f64], g: &[f64], free: &[u32]) -> f64
     requires { (length g.now ≡ length x.now) × (length free.now ≡ length x.now) }
     ensures { result ≡ reach_to x.now g.now free.now (length x.now) }
 {
-    let mut step = 1.0 / 0.0;
-    let mut p = 0usize;
-    while p < x.len() {
-        if free[p] == 1 {
-            if g[p] != 0.0 {
-                step = smaller(step, (signum(g[p]) - x[p]) / g[p]);
-            }
+    let mut step = f64::INFINITY;
+    for (p, &f) in free.iter().enumerate() {
+        if f == 1 && g[p] != 0.0 {
+            step = smaller(step, (signum(g[p]) - x[p]) / g[p]);
         }
-        p += 1;
     }
     step
 }
@@ -44,12 +38,10 @@ pub fn move_free(x: &mut [f64], t: f64, g: &[f64], free: &[u32])
     requires { (length g.now ≡ length x.old) × (length free.now ≡ length x.old) }
     ensures { x.new ≡ moved t x.old g.now free.now }
 {
-    let mut p = 0usize;
-    while p < x.len() {
+    for (p, x) in x.iter_mut().enumerate() {
         if free[p] == 1 {
-            x[p] = clamp(x[p] + t * g[p], -1.0, 1.0);
+            *x = clamp(*x + t * g[p], -1.0, 1.0);
         }
-        p += 1;
     }
 }
 
@@ -59,9 +51,8 @@ pub fn move_rows(both: &mut [f64], rows: usize, t: f64)
     ensures { both.new ≡ along t (part 0 rows both.old) (part rows rows both.old) ++ drop
         rows both.old }
 {
-    let mut i = 0usize;
-    while i < rows {
-        both[i] = both[i] + t * both[rows + i];
-        i += 1;
+    let (ax, ag) = both.split_at_mut(rows);
+    for (i, a) in ax.iter_mut().enumerate() {
+        *a = *a + t * ag[i];
     }
 }

@@ -14,25 +14,11 @@ use root::sqrt;
 use std::num::wrapping_add_u64;
 use wide::lower;
 
-// The generator: 64 bits of state, and the edition of its draws. It goes in and out by value.
-#[derive(Drop)]
+// The generator: 64 bits of state, and the edition of its draws. Each draw moves it on in place.
+#[derive(Clone, Copy)]
 pub struct SplitMix64 {
     pub state: u64,
     pub edition: u32,
-}
-
-// An output, and the generator moved on.
-#[derive(Drop)]
-pub struct Word {
-    pub value: u64,
-    pub rng: SplitMix64,
-}
-
-// A draw, and the generator moved on.
-#[derive(Drop)]
-pub struct Draw {
-    pub value: f64,
-    pub rng: SplitMix64,
 }
 
 impl SplitMix64 {
@@ -47,44 +33,29 @@ impl SplitMix64 {
     }
 
     // The next output.
-    pub fn next_u64(self) -> Word
-        ensures { (result.value ≡ output_of self) × (result.rng ≡ after_of self) }
+    pub fn next_u64(&mut self) -> u64
+        ensures { (result ≡ output_of self.old) × (self.new ≡ after_of self.old) }
     {
         let state = wrapping_add_u64(self.state, 0x9e37_79b9_7f4a_7c15);
-        Word {
-            value: mix(state),
-            rng: SplitMix64 {
-                state,
-                edition: self.edition,
-            },
-        }
+        self.state = state;
+        mix(state)
     }
 
     // The next uniform draw.
-    pub fn uniform(self) -> Draw
-        ensures { (result.value ≡ uniform_in self) × (result.rng ≡ after_of self) }
+    pub fn uniform(&mut self) -> f64
+        ensures { (result ≡ uniform_in self.old) × (self.new ≡ after_of self.old) }
     {
-        let edition = self.edition;
         let word = self.next_u64();
-        let rng = word.rng;
-        Draw {
-            value: uniform_of(edition, word.value),
-            rng,
-        }
+        uniform_of(self.edition, word)
     }
 
     // The next Gaussian draw: u1 is drawn, and then u2.
-    pub fn gaussian(self) -> Draw
-        ensures { (result.value ≡ gaussian_of self) × (result.rng ≡ after_gaussian self) }
+    pub fn gaussian(&mut self) -> f64
+        ensures { (result ≡ gaussian_of self.old) × (self.new ≡ after_gaussian self.old) }
     {
         let u1 = self.uniform();
-        let between = u1.rng;
-        let u2 = between.uniform();
-        let rng = u2.rng;
-        Draw {
-            value: box_muller(u1.value, u2.value),
-            rng,
-        }
+        let u2 = self.uniform();
+        box_muller(u1, u2)
     }
 }
 

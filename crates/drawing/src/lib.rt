@@ -11,23 +11,13 @@ use basis::project_out;
 use draw::SplitMix64;
 use linear::norm;
 
-// Fills g with draws; the generator after them.
-pub fn draw_into(g: &mut [f64], rng: SplitMix64) -> SplitMix64
-    ensures { (g.new ≡ drawn rng (length g.old)) × (result ≡ after_draws rng (length g.old)) }
+// Fills g with draws, in order.
+pub fn draw_into(g: &mut [f64], rng: &mut SplitMix64)
+    ensures { (g.new ≡ drawn rng.old (length g.old)) × (rng.new ≡ after_draws rng.old (length g.old)) }
 {
-    let mut r = rng;
-    let mut i = 0usize;
-    while i < g.len() {
-        let d = r.gaussian();
-        g[i] = d.value;
-        // Field by field: a load of the whole would wait until both fields had been written out.
-        r = SplitMix64 {
-            state: d.rng.state,
-            edition: d.rng.edition,
-        };
-        i += 1;
+    for x in g.iter_mut() {
+        *x = rng.gaussian();
     }
-    r
 }
 
 // 0.0 at each place of g that is not free.
@@ -35,12 +25,10 @@ fn zero_frozen(g: &mut [f64], free: &[u32])
     requires { length free.now ≡ length g.old }
     ensures { g.new ≡ zeroed free.now g.old }
 {
-    let mut p = 0usize;
-    while p < g.len() {
+    for (p, x) in g.iter_mut().enumerate() {
         if free[p] != 1 {
-            g[p] = 0.0;
+            *x = 0.0;
         }
-        p += 1;
     }
 }
 

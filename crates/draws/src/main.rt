@@ -86,10 +86,11 @@ fn bits(x: f64) -> u64 {
 
 // One line.
 fn replay<W: Write>(out: &mut W, state: u64, edition: u32) -> io::Result<()> {
-    let first = SplitMix64::new(state, edition).next_u64();
-    let second = first.rng.next_u64();
-    print_words(out, state, first.value, second.value)?;
-    print_uniforms(out, edition, first.value, second.value)?;
+    let mut rng = SplitMix64::new(state, edition);
+    let first = rng.next_u64();
+    let second = rng.next_u64();
+    print_words(out, state, first, second)?;
+    print_uniforms(out, edition, first, second)?;
     print_draw(out, state, edition)
 }
 
@@ -107,9 +108,10 @@ fn print_uniforms<W: Write>(out: &mut W, edition: u32, first: u64, second: u64) 
 }
 
 fn print_draw<W: Write>(out: &mut W, state: u64, edition: u32) -> io::Result<()> {
-    let d = SplitMix64::new(state, edition).gaussian();
-    print(out, bits(d.value), '\t')?;
-    print(out, d.rng.state, '\n')
+    let mut rng = SplitMix64::new(state, edition);
+    let gaussian = rng.gaussian();
+    print(out, bits(gaussian), '\t')?;
+    print(out, rng.state, '\n')
 }
 
 // All lines of an edition.

@@ -10,7 +10,7 @@ use ieee::abs;
 use snapping::freeze_at;
 
 // How many vectors the basis has, and how many coordinates froze in this phase.
-#[derive(Drop)]
+#[derive(Clone, Copy)]
 pub struct Frozen {
     pub count: usize,
     pub frozen: usize,
@@ -36,30 +36,25 @@ pub fn freeze(
         (length cols.now) numbers.old blocked.old x.old free.old from.count
         from.frozen result.count result.frozen numbers.new blocked.new x.new free.new }
 {
-    let mut count = from.count;
-    let mut frozen = from.frozen;
-    let mut p = 0usize;
-    while p < cols.len() {
-        if free[p] == 1 {
-            if abs(x[p]) >= 1.0 - 1e-9 {
-                count = freeze_at(
-                    numbers,
-                    count,
-                    blocked,
-                    x,
-                    free,
-                    p,
-                    matrix,
-                    bits,
-                    n,
-                    cols,
-                    scale,
-                    &mut v[..],
-                );
-                frozen += 1;
-            }
+    let mut f = from;
+    for p in 0..cols.len() {
+        if free[p] == 1 && abs(x[p]) >= 1.0 - 1e-9 {
+            f.count = freeze_at(
+                numbers,
+                f.count,
+                blocked,
+                x,
+                free,
+                p,
+                matrix,
+                bits,
+                n,
+                cols,
+                scale,
+                &mut v[..],
+            );
+            f.frozen += 1;
         }
-        p += 1;
     }
-    Frozen { count, frozen }
+    f
 }

@@ -31,7 +31,6 @@ fn halve_some(
     ensures { HalvesSome (read_of matrix.now bits.now n) n w.old omega some.now tally
         w.new result }
 {
-    let rng = tally.rng;
     scales_into(&mut scale[..], &w[..], omega, some);
     let c = coloring(
         matrix,
@@ -42,17 +41,14 @@ fn halve_some(
         &mut x[..],
         numbers,
         blocked,
-        rng,
+        tally.rng,
     );
     let sigma = sigma_of(&x[..]);
     double_or_zero(w, some, &x[..], sigma);
-    let directions = tally.directions + c.directions;
-    let sweeps = tally.sweeps + c.sweeps;
-    let r = c.rng;
     Counted {
-        directions,
-        sweeps,
-        rng: r,
+        directions: tally.directions + c.directions,
+        sweeps: tally.sweeps + c.sweeps,
+        rng: c.rng,
     }
 }
 

@@ -20,18 +20,20 @@ pub fn version() -> u64
 pub fn next_uniform(state: &mut u64, edition: u32) -> f64
     ensures { UniformDrawn state.old edition result state.new }
 {
-    let u = SplitMix64::new(*state, edition).uniform();
-    *state = u.rng.state;
-    u.value
+    let mut rng = SplitMix64::new(*state, edition);
+    let u = rng.uniform();
+    *state = rng.state;
+    u
 }
 
 // The next Gaussian draw by an edition; the state moves on.
 pub fn next_gaussian(state: &mut u64, edition: u32) -> f64
     ensures { GaussianDrawn state.old edition result state.new }
 {
-    let d = SplitMix64::new(*state, edition).gaussian();
-    *state = d.rng.state;
-    d.value
+    let mut rng = SplitMix64::new(*state, edition);
+    let d = rng.gaussian();
+    *state = rng.state;
+    d
 }
 
 // The cap that a host names: none where `capped` is 0.

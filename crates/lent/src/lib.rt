@@ -1,6 +1,4 @@
-// The generator lent: each draw moves it on in place, as 000's do, over the draws by value. A struct cannot be moved out from behind a
-// reference, so a draw in place reads the generator's two fields, and hands on one that has them. Whoever calls `two_gaussians` takes
-// and gives plain data.
+// The generator lent: each draw moves it on in place, as 000's do. Whoever calls `two_gaussians` takes and gives plain data.
 #![tactic(auto)]
 
 ghost use Rattle.std.specs.Prelude.{◌≡◌};
@@ -11,7 +9,7 @@ ghost use Rattle.draw.specs.Gaussian.{gaussian_of, after_gaussian};
 use draw::SplitMix64;
 
 // The generator that is lent, of either edition.
-#[derive(Drop)]
+#[derive(Clone, Copy)]
 pub struct Generator {
     pub rng: SplitMix64,
 }
@@ -21,13 +19,7 @@ impl Generator {
     pub fn next_u64(&mut self) -> u64
         ensures { (result ≡ output_of self.old.rng) × (self.new.rng ≡ after_of self.old.rng) }
     {
-        let rng = SplitMix64 {
-            state: self.rng.state,
-            edition: self.rng.edition,
-        };
-        let word = rng.next_u64();
-        self.rng = word.rng;
-        word.value
+        self.rng.next_u64()
     }
 
     // The next uniform draw.
@@ -35,13 +27,7 @@ impl Generator {
         ensures { (result ≡ uniform_in self.old.rng)
             × (self.new.rng ≡ after_of self.old.rng) }
     {
-        let rng = SplitMix64 {
-            state: self.rng.state,
-            edition: self.rng.edition,
-        };
-        let draw = rng.uniform();
-        self.rng = draw.rng;
-        draw.value
+        self.rng.uniform()
     }
 
     // The next Gaussian draw.
@@ -49,18 +35,12 @@ impl Generator {
         ensures { (result ≡ gaussian_of self.old.rng)
             × (self.new.rng ≡ after_gaussian self.old.rng) }
     {
-        let rng = SplitMix64 {
-            state: self.rng.state,
-            edition: self.rng.edition,
-        };
-        let draw = rng.gaussian();
-        self.rng = draw.rng;
-        draw.value
+        self.rng.gaussian()
     }
 }
 
 // Two draws, in their order.
-#[derive(Drop)]
+#[derive(Clone, Copy)]
 pub struct Pair {
     pub first: f64,
     pub second: f64,
@@ -71,10 +51,7 @@ pub fn two_gaussians(seed: u64, edition: u32) -> Pair
     ensures { (result.first ≡ gaussian_of (seeded seed edition)) × (result.second ≡ gaussian_of (after_gaussian (seeded seed edition))) }
 {
     let mut generator = Generator {
-        rng: SplitMix64 {
-            state: seed,
-            edition,
-        },
+        rng: SplitMix64::new(seed, edition),
     };
     let first = generator.gaussian();
     let second = generator.gaussian();

@@ -28,7 +28,7 @@ use Rattle.rules.specs.Rules.{meets, rule_fault}
 use Rattle.stages.specs.Stopping.{entries_at, above, rests, exceeds, stops, stop_of, passes_to}
 use Rattle.stages.specs.Paths.{Noted, Followed}
 use Rattle.stages.specs.declared.Path.{Path}
-use Rattle.tried.specs.Trial.{TriedOnce, above_after}
+use Rattle.tried.specs.Trial.{TriedOnce, above_after, was_taken, goes_onward}
 use Rattle.colored.specs.declared.Counted.{Counted}
 use Rattle.rules.specs.declared.Cap.{Cap}
 use Rattle.rules.specs.declared.Rule.{Rule}
@@ -273,7 +273,7 @@ module _ (matrix : ℕ → ℕ → Float) (n : ℕ) (start : List Float) (source
           record { directions = ap (λ (h : Halved). h.directions) comes-to; sweeps = ap (λ (h : Halved). h.sweeps) comes-to }
 
       -- the pass was not taken
-      pub allowance_left : r.taken ≡ false → {p : Path} → Noted matrix n start source i (suc i) p → Followed matrix n start source (Within a c) p w'
+      pub allowance_left : was_taken r.outcome ≡ false → {p : Path} → Noted matrix n start source i (suc i) p → Followed matrix n start source (Within a c) p w'
       allowance_left t path =
           let stays : w' ≡ w = tried.weights ∙ ap (λ (b : Bool). pick b (pass_from w tally).w w) t in
           rw stays
@@ -281,7 +281,7 @@ module _ (matrix : ℕ → ℕ → Float) (n : ℕ) (start : List Float) (source
           ∙ not-false (above_after matrix n start a w tally && meets c (nonzeros w)) (sym tried.taken ∙ t)))
 
       -- it was
-      module _ (taken : r.taken ≡ true) where
+      module _ (taken : was_taken r.outcome ≡ true) where
         moves : w' ≡ (pass_from w tally).w
         moves = tried.weights ∙ ap (λ (b : Bool). pick b (pass_from w tally).w w) taken
 
@@ -305,16 +305,16 @@ module _ (matrix : ℕ → ℕ → Float) (n : ℕ) (start : List Float) (source
             (ap (λ (t : Bool). t && meets c (entries_at plus_zero matrix n start source (suc i))) after_is
             ∙ ap (λ (k : ℕ). above_after matrix n start a w tally && meets c k) (ap nonzeros (next_weights on ∙ sym moves)))
 
-        more_is : r.more ≡ not (above_after matrix n start a w tally && meets c (nonzeros w'))
+        more_is : goes_onward r.outcome ≡ not (above_after matrix n start a w tally && meets c (nonzeros w'))
         more_is = tried.more ∙ ap (λ (b : Bool). b && not (above_after matrix n start a w tally && meets c (nonzeros w'))) taken
 
-        pub allowance_goes : r.more ≡ true → closes a c (i + 1) ≡ false
+        pub allowance_goes : goes_onward r.outcome ≡ true → closes a c (i + 1) ≡ false
         allowance_goes m = closes_is ∙ not-true (above_after matrix n start a w tally && meets c (nonzeros w')) (sym more_is ∙ m)
 
         pub measured : r.change ≡ max_change matrix (length start) n start w'
         measured = tried.change ∙ ap (max_change matrix (length start) n start) (sym moves)
 
-        pub allowance_last : r.more ≡ false → {p : Path} → Noted matrix n start source (i + 1) (i + 1) p → Followed matrix n start source (Within a c) p w'
+        pub allowance_last : goes_onward r.outcome ≡ false → {p : Path} → Noted matrix n start source (i + 1) (i + 1) p → Followed matrix n start source (Within a c) p w'
         allowance_last m path =
             rested falls accepted allowance_on path
             (second_holds (leb (entries_at plus_zero matrix n start source (i + 1)) 1) _

@@ -12,9 +12,9 @@ ghost use Rattle.walked.specs.Walking.{StepHolds};
 use advance::advance;
 use drawing::{direct, draw_into};
 use freeze::{Frozen, freeze};
-use walked::{Stand, Went};
+use walked::Stand;
 
-// One step. g is room for a direction and then for a row.
+// One step; whether the phase goes on. g is room for a direction and then for a row.
 pub fn step(
     numbers: &mut [f64],
     blocked: &mut [u32],
@@ -25,55 +25,36 @@ pub fn step(
     n: usize,
     cols: &[u32],
     scale: &[f64],
-    from: Stand,
+    at: &mut Stand,
     g: &mut [f64],
-) -> Went
+) -> bool
     requires { Chosen matrix.now bits.now n cols.now scale.now (length blocked.old) × Roomy (length cols.now) numbers.old
-        blocked.old x.old free.old from.count × (length g.old ≡ length cols.now) × (from.frozen ≤ 256) }
-    ensures { StepHolds numbers.new blocked.new x.new free.new result
+        blocked.old x.old free.old at.old.count × (length g.old ≡ length cols.now) × (at.old.frozen ≤ 256) }
+    ensures { StepHolds numbers.new blocked.new x.new free.new at.new result
         (step_of plus_zero (entry_of matrix.now bits.now n cols.now scale.now)
         (length cols.now) (length blocked.old)
-        (held numbers.old blocked.old x.old free.old from.count
-        from.frozen from.rng)) }
+        (held numbers.old blocked.old x.old free.old at.old.count
+        at.old.frozen at.old.rng)) }
 {
     let l = cols.len();
     let rows = blocked.len();
-    let count = from.count;
-    let frozen = from.frozen;
     let base = rows + rows + rows;
-    let end = base + count * l;
-    let rng = draw_into(&mut g[..], from.rng);
-    if direct(&numbers[base..end], count, l, &free[..], &mut g[..]) {
-        return Went {
-            more: false,
-            at: Stand { count, frozen, rng },
-        };
+    let end = base + at.count * l;
+    draw_into(&mut g[..], &mut at.rng);
+    if direct(&numbers[base..end], at.count, l, &free[..], &mut g[..]) {
+        return false;
     }
     if !advance(numbers, rows, x, &free[..], matrix, bits, n, cols, scale, g) {
-        return Went {
-            more: false,
-            at: Stand { count, frozen, rng },
-        };
+        return false;
     }
+    let from = Frozen {
+        count: at.count,
+        frozen: at.frozen,
+    };
     let f = freeze(
-        numbers,
-        Frozen { count, frozen },
-        blocked,
-        x,
-        free,
-        matrix,
-        bits,
-        n,
-        cols,
-        scale,
-        g,
+        numbers, from, blocked, x, free, matrix, bits, n, cols, scale, g,
     );
-    Went {
-        more: frozen < f.frozen,
-        at: Stand {
-            count: f.count,
-            frozen: f.frozen,
-            rng,
-        },
-    }
+    at.count = f.count;
+    at.frozen = f.frozen;
+    from.frozen < f.frozen
 }

@@ -16,6 +16,7 @@ use draw::SplitMix64;
 use rules::Cap;
 use stages::Path;
 use trial::try_pass;
+use tried::Outcome;
 use weights::count_nonzeros;
 
 // Passes until one measures above the allowance and the cap is met; the path to there. w and start are the normalized weights.
@@ -48,6 +49,7 @@ pub fn to_allowance(
     let mut left = count_nonzeros(&w[..]);
     nonzeros[stage] = left as u64;
     change[stage] = change_of(matrix, bits, n, start, &w[..]);
+    // A `while`: what ends it is the number of nonzeros. Each pass at least halves it, so that there are at most nine stages.
     while left > 1 {
         let t = try_pass(
             matrix,
@@ -62,16 +64,15 @@ pub fn to_allowance(
             allowance,
             cap,
         );
-        let after = t.tally;
-        tally = after;
-        if !t.taken {
+        tally = t.tally;
+        if t.outcome == Outcome::Discarded {
             break;
         }
         stage += 1;
         left = count_nonzeros(&w[..]);
         nonzeros[stage] = left as u64;
         change[stage] = t.change;
-        if !t.more {
+        if t.outcome == Outcome::Last {
             break;
         }
     }

@@ -44,8 +44,9 @@ pub fn to_target(
     let mut left = count_nonzeros(&w[..]);
     nonzeros[stage] = left as u64;
     change[stage] = change_of(matrix, bits, n, start, &w[..]);
+    // A `while`: what ends it is the number of nonzeros. Each pass at least halves it, so that there are at most nine stages.
     while left > target {
-        let after = halving_pass(
+        tally = halving_pass(
             matrix,
             bits,
             n,
@@ -54,7 +55,6 @@ pub fn to_target(
             &mut indices[..],
             tally,
         );
-        tally = after;
         stage += 1;
         left = count_nonzeros(&w[..]);
         nonzeros[stage] = left as u64;

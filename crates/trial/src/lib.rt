@@ -13,7 +13,7 @@ use colored::Counted;
 use halving::halving_pass;
 use rules::{Cap, meets_cap};
 use seq::copy;
-use tried::Tried;
+use tried::{Outcome, Tried};
 use weights::count_nonzeros;
 
 // Whether weights meet the cap, where the change is above the allowance.
@@ -54,16 +54,18 @@ pub fn try_pass(
         return Tried {
             tally: after,
             change,
-            taken: false,
-            more: false,
+            outcome: Outcome::Discarded,
         };
     }
     copy(&mut w[..], &next[..]);
-    let ends = ends_there(above, cap, &w[..]);
+    let outcome = if ends_there(above, cap, &w[..]) {
+        Outcome::Last
+    } else {
+        Outcome::Onward
+    };
     Tried {
         tally: after,
         change,
-        taken: true,
-        more: !ends,
+        outcome,
     }
 }

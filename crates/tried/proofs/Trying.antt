@@ -13,11 +13,11 @@ use Rattle.halved.specs.Halve.{Halved}
 use Rattle.halved.specs.Handed.{Ready, halves_of}
 use Rattle.passed.specs.Halving.{pass_of}
 use Rattle.rules.specs.Rules.{meets}
-use Rattle.tried.specs.Trial.{TriedOnce, change_after, above_after}
+use Rattle.tried.specs.Trial.{TriedOnce, change_after, above_after, was_taken, goes_onward}
 use Rattle.colored.specs.declared.Counted.{Counted}
 use Rattle.rules.specs.declared.Cap.{Cap}
+use Rattle.tried.specs.declared.Outcome.TheVariants.{Discarded}
 use Rattle.tried.specs.declared.Tried.{Tried}
-use Rattle.draw.specs.declared.SplitMix64.{SplitMix64}
 
 -- the matrix of a pass is one that a change is measured over
 pub lent_of : {matrix : List Float} {bits : List ℕ} {n : ℕ} {w numbers : List Float} {indices : List ℕ} (start : List Float)
@@ -44,19 +44,21 @@ module _ (matrix : ℕ → ℕ → Float) (n : ℕ) (start : List Float) (a : Fl
     after_is : above_after matrix n start a w tally ≡ not (le x a)
     after_is = ap (λ (y : Float). not (le y a)) (sym change_is)
 
-    pub left_tried : (not (le x a) && meets cap (nonzeros w)) ≡ true → (r : Tried) → r.tally ≡ after → r.change ≡ x → r.taken ≡ false
-        → r.more ≡ false → TriedOnce matrix n start a cap w tally r w
-    left_tried ends r s d t m =
+    pub left_tried : (not (le x a) && meets cap (nonzeros w)) ≡ true → (r : Tried) → r.tally ≡ after → r.change ≡ x
+        → r.outcome ≡ Discarded → TriedOnce matrix n start a cap w tally r w
+    left_tried ends r s d o =
+        let t = ap was_taken o in
         record {
           pass = rw s comes-to;
           change = d ∙ change_is;
           taken = t ∙ sym (rw after_is (rw ends));
           weights = rw t;
-          more = m ∙ sym (rw t);
+          more = ap goes_onward o ∙ sym (rw t);
         }
 
     pub taken_tried : (not (le x a) && meets cap (nonzeros w)) ≡ false → (w' : List Float) → w' ≡ v → (r : Tried) → r.tally ≡ after
-        → r.change ≡ x → r.taken ≡ true → r.more ≡ not (not (le x a) && meets cap (nonzeros w')) → TriedOnce matrix n start a cap w tally r w'
+        → r.change ≡ x → was_taken r.outcome ≡ true → goes_onward r.outcome ≡ not (not (le x a) && meets cap (nonzeros w'))
+        → TriedOnce matrix n start a cap w tally r w'
     taken_tried goes w' e r s d t m =
         record {
           pass = rw s comes-to;

@@ -3,12 +3,18 @@
 
 use colored::Counted;
 
-// How a try of one more pass ended: the tally with it, what it measured, whether its weights were taken, and whether another is to be
-// tried.
-#[derive(Drop)]
+// How a try of one more pass ended: its weights were discarded, or taken as the last ones, or taken with another pass to be tried.
+#[derive(Clone, Copy, PartialEq, Eq, Debug)]
+pub enum Outcome {
+    Discarded,
+    Last,
+    Onward,
+}
+
+// A try of one more pass: the tally with it, what it measured, and how it ended.
+#[derive(Clone, Copy)]
 pub struct Tried {
     pub tally: Counted,
     pub change: f64,
-    pub taken: bool,
-    pub more: bool,
+    pub outcome: Outcome,
 }

@@ -41,7 +41,7 @@ fn steps(
     let mut at = from;
     let mut directions = 0usize;
     while at.count < cols.len() {
-        let s = step(
+        let more = step(
             numbers,
             blocked,
             x,
@@ -51,19 +51,13 @@ fn steps(
             n,
             cols,
             scale,
-            at,
+            &mut at,
             &mut g[..],
         );
-        let next = s.at;
-        at = next;
-        let drawn = directions + 1;
-        if !s.more {
-            return Phased {
-                at,
-                directions: drawn,
-            };
+        directions += 1;
+        if !more {
+            break;
         }
-        directions = drawn;
     }
     Phased { at, directions }
 }

@@ -24,7 +24,7 @@ use Rattle.walked.specs.Walk.{Stepped, drew, advanced, stepped_along, step_of, C
 use Rattle.blocking.specs.Held.{ax_in, basis_in, held, Roomy}
 use Rattle.begin.specs.Beginning.{Begun}
 use Rattle.walked.specs.Walking.{StepHolds, CourseHolds}
-use Rattle.walked.specs.declared.Went.{Went}
+use Rattle.walked.specs.declared.Stand.{Stand}
 use Rattle.walked.specs.declared.Phased.{Phased}
 use Rattle.blocking.proofs.Scratch.{walk_path}
 use Rattle.blocking.proofs.Freezing.{freeze_most, count_most}
@@ -108,18 +108,18 @@ module _ (a : ℕ → ℕ → Float) (l : ℕ) (numbers₀ : List Float) (blocke
           directions = ed ∙ ap (λ (c : Course). c.directions) e;
         }
 
-    module _ (numbers' : List Float) (blocked' : List ℕ) (x' : List Float) (free' : List ℕ) (s : Went) (short : count < l)
-        (given : StepHolds numbers' blocked' x' free' s (step_of plus_zero a l (length blocked) now-at)) where
+    module _ (numbers' : List Float) (blocked' : List ℕ) (x' : List Float) (free' : List ℕ) (s : Stand) (more : Bool) (short : count < l)
+        (given : StepHolds numbers' blocked' x' free' s more (step_of plus_zero a l (length blocked) now-at)) where
       abbrev next-at : Walk
-      next-at = held numbers' blocked' x' free' s.at.count s.at.frozen s.at.rng
+      next-at = held numbers' blocked' x' free' s.count s.frozen s.rng
 
       abbrev one : Stepped
       one = step_of plus_zero a l n now-at
 
-      here : StepHolds numbers' blocked' x' free' s one
-      here = subst (λ (k : ℕ). StepHolds numbers' blocked' x' free' s (step_of plus_zero a l k now-at)) i.rows given
+      here : StepHolds numbers' blocked' x' free' s more one
+      here = subst (λ (k : ℕ). StepHolds numbers' blocked' x' free' s more (step_of plus_zero a l k now-at)) i.rows given
 
-      pub going-last : s.more ≡ false → CourseHolds numbers' blocked' x' free' (record { at = s.at; directions = directions + 1 })
+      pub going-last : more ≡ false → CourseHolds numbers' blocked' x' free' (record { at = s; directions = directions + 1 })
           (course_of plus_zero a l n start)
       going-last e =
           let last : next plus_zero a l n (going plus_zero a l n directions now-at) ≡ course_of plus_zero a l n start =
@@ -129,20 +129,20 @@ module _ (a : ℕ → ℕ → Float) (l : ℕ) (numbers₀ : List Float) (blocke
             directions = add-one directions ∙ ap (λ (c : Course). c.directions) last;
           }
 
-      together : s.at.frozen + free_ones free' ≡ frozen + free_ones free
+      together : s.frozen + free_ones free' ≡ frozen + free_ones free
       together = ap (coordinates plus_zero a l n) here.walk ∙ (step_sound plus_zero a l n now-at).together
 
-      more_frozen : s.more ≡ true → frozen < s.at.frozen
+      more_frozen : more ≡ true → frozen < s.frozen
       more_frozen e =
-          let f : s.at.frozen ≡ one.walk.frozen = ap (λ (w : Walk). w.frozen) here.walk in
+          let f : s.frozen ≡ one.walk.frozen = ap (λ (w : Walk). w.frozen) here.walk in
           omega (arith, f, (step_sound plus_zero a l n now-at).more_frozen (sym here.more ∙ e))
 
-      pub fewer_free : s.more ≡ true → free_ones free' < free_ones free
+      pub fewer_free : more ≡ true → free_ones free' < free_ones free
       fewer_free e = omega (arith, together, more_frozen e)
 
-      pub going_on : (g' : List Float) → s.more ≡ true
+      pub going_on : (g' : List Float) → more ≡ true
           → length numbers' ≡ length numbers → length blocked' ≡ length blocked → length x' ≡ length x → length free' ≡ length free → length g' ≡ length g
-          → Going a l numbers₀ blocked₀ x₀ free₀ g₀ start numbers' blocked' x' free' g' s.at.count s.at.frozen s.at.rng (directions + 1)
+          → Going a l numbers₀ blocked₀ x₀ free₀ g₀ start numbers' blocked' x' free' g' s.count s.frozen s.rng (directions + 1)
       going_on g' e ln lb lx lf lg =
           let q : Roomy l numbers blocked x free count = i.roomy in
           record {
@@ -150,7 +150,7 @@ module _ (a : ℕ → ℕ → Float) (l : ℕ) (numbers₀ : List Float) (blocke
               room = omega (arith, ln, lb, q.room);
               wide = lx ∙ q.wide;
               marks = lf ∙ q.marks;
-              most = count_most l s.at.count numbers' blocked' x' free' s.at.frozen s.at.rng one.walk here.walk
+              most = count_most l s.count numbers' blocked' x' free' s.frozen s.rng one.walk here.walk
                   (step_most plus_zero a l n now-at (omega (arith, counted)));
             };
             nums = ln ∙ i.nums;

@@ -22,7 +22,7 @@ use Rattle.walked.specs.Walk.{step_of, stepped_along, advanced}
 use Rattle.blocking.specs.Held.{ax_in, basis_in, held, Roomy, FreezesAll}
 use Rattle.advance.specs.Advancing.{Advanced}
 use Rattle.walked.specs.Walking.{StepHolds}
-use Rattle.walked.specs.declared.Went.{Went}
+use Rattle.walked.specs.declared.Stand.{Stand}
 use Rattle.blocking.proofs.Scratch.{vectors_take, drop-later, walk_path}
 use Rattle.advance.proofs.Advancing.{length-directed}
 use Rattle.draw.specs.declared.SplitMix64.{SplitMix64}
@@ -76,13 +76,13 @@ module _ (a : ℕ → ℕ → Float) (l : ℕ) (numbers : List Float) (blocked :
   way_long = ap length way_is ∙ length-directed plus_zero w.basis free (drawn rng l) ∙ length-tab _ l
 
   -- too little is left of the direction
-  pub stops_short : (o : Went) → s ≡ true → o.more ≡ false → o.at.count ≡ count → o.at.frozen ≡ frozen → o.at.rng ≡ after_draws rng (length g)
-      → StepHolds numbers blocked x free o (step_of plus_zero a l n w)
+  pub stops_short : (o : Stand) → s ≡ true → o.count ≡ count → o.frozen ≡ frozen → o.rng ≡ after_draws rng (length g)
+      → StepHolds numbers blocked x free o false (step_of plus_zero a l n w)
   unfolding step_of
-  stops_short o e em ec ef er =
+  stops_short o e ec ef er =
       let h : too_short plus_zero (drawn rng l) way ≡ true = sym short_is ∙ e in
       record {
-        more = rw h em;
+        more = rw h;
         walk = rw h (walk_path refl refl ef refl refl (ap (λ (j : ℕ). basis_in n (length x) j numbers) ec) (er ∙ ap (after_draws rng) lg));
       }
 
@@ -105,27 +105,27 @@ module _ (a : ℕ → ℕ → Float) (l : ℕ) (numbers : List Float) (blocked :
         ∙ ap (vectors_in (length x) count) (drop-later (n + n) base numbers numbers1 (omega arith) go.rest)
 
     -- the step would not be finite
-    pub stops_nowhere : (o : Went) → r ≡ false → o.more ≡ false → o.at.count ≡ count → o.at.frozen ≡ frozen → o.at.rng ≡ after_draws rng (length g)
-        → StepHolds numbers1 blocked x1 free o (step_of plus_zero a l n w)
+    pub stops_nowhere : (o : Stand) → r ≡ false → o.count ≡ count → o.frozen ≡ frozen → o.rng ≡ after_draws rng (length g)
+        → StepHolds numbers1 blocked x1 free o false (step_of plus_zero a l n w)
     unfolding step_of stepped_along
-    stops_nowhere o e em ec ef er =
+    stops_nowhere o e ec ef er =
         let f : finite (reach_of l way) ≡ false = sym goes_is ∙ e in
         let ex : x1 ≡ x = passed r _ _ go.moves e in
         record {
-          more = rw (long_way, f) em;
+          more = rw (long_way, f);
           walk = rw (long_way, f)
-              (walk_path ex refl ef (passed r _ _ go.ax e) refl (same_basis (ap length ex) o.at.count ec) (er ∙ ap (after_draws rng) lg));
+              (walk_path ex refl ef (passed r _ _ go.ax e) refl (same_basis (ap length ex) o.count ec) (er ∙ ap (after_draws rng) lg));
         }
 
     -- the step is made, and coordinates freeze
-    pub moves_on : (o : Went) (numbers' : List Float) (blocked' : List ℕ) (x' : List Float) (free' : List ℕ) (c f : ℕ) → r ≡ true → length x1 ≡ length x
+    pub moves_on : (o : Stand) (numbers' : List Float) (blocked' : List ℕ) (x' : List Float) (free' : List ℕ) (c f : ℕ) → r ≡ true → length x1 ≡ length x
         → FreezesAll a l numbers1 blocked x1 free count frozen c f numbers' blocked' x' free'
-        → o.more ≡ ltb frozen f → o.at.count ≡ c → o.at.frozen ≡ f → o.at.rng ≡ after_draws rng (length g)
-        → StepHolds numbers' blocked' x' free' o (step_of plus_zero a l n w)
+        → o.count ≡ c → o.frozen ≡ f → o.rng ≡ after_draws rng (length g)
+        → StepHolds numbers' blocked' x' free' o (ltb frozen f) (step_of plus_zero a l n w)
     unfolding step_of stepped_along
-    moves_on o numbers' blocked' x' free' c f e lx h em ec ef er =
+    moves_on o numbers' blocked' x' free' c f e lx h ec ef er =
         let t : finite (reach_of l way) ≡ true = sym goes_is ∙ e in
-        let rng' : SplitMix64 = o.at.rng in
+        let rng' : SplitMix64 = o.rng in
         let next : Walk = advanced l w (reach_of l way) (turned (up_of l way) way) (turned (up_of l way) (times plus_zero a l n way)) in
         let ex : x1 ≡ moved (reach_of l way) x (turned (up_of l way) way) free =
         picked r _ _ go.moves e
@@ -138,7 +138,7 @@ module _ (a : ℕ → ℕ → Float) (l : ℕ) (numbers : List Float) (blocked :
         let frozen_is : held numbers' blocked' x' free' c f rng' ≡ freeze_to plus_zero a l n next l = h.holds rng' ∙ ap
         (λ (v : Walk). freeze_to plus_zero a l n v l) moved_is in
         record {
-          more = rw (long_way, t) (em ∙ ap (λ (v : Walk). ltb frozen v.frozen) frozen_is);
+          more = rw (long_way, t) (ap (λ (v : Walk). ltb frozen v.frozen) frozen_is);
           walk = rw (long_way, t) (ap₂ (λ (i j : ℕ). held numbers' blocked' x' free' i j rng') ec ef ∙ frozen_is);
         }
 

@@ -4,22 +4,15 @@
 use draw::SplitMix64;
 
 // Where a walk stands: how many vectors the basis has, how many coordinates froze in this phase, and the generator.
-#[derive(Drop)]
+#[derive(Clone, Copy)]
 pub struct Stand {
     pub count: usize,
     pub frozen: usize,
     pub rng: SplitMix64,
 }
 
-// Whether the phase goes on, and where the walk stands.
-#[derive(Drop)]
-pub struct Went {
-    pub more: bool,
-    pub at: Stand,
-}
-
 // Where the walk stands after a phase, and how many directions the phase drew.
-#[derive(Drop)]
+#[derive(Clone, Copy)]
 pub struct Phased {
     pub at: Stand,
     pub directions: usize,

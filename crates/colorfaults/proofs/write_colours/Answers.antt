@@ -5,16 +5,14 @@ use Rattle.colorfaults.proofs.write_colours.Goals.{else-x-j, then-x-j}
 use Rattle.colorfaults.proofs.write_colours.Goals as goal
 
 pub loop-j-init : goal.loop-j-init
-loop-j-init c = (c.requires, start _ _)
+loop-j-init c = start _ _
 
 pub loop-j-preserved : goal.loop-j-preserved
-loop-j-preserved c = (
-  c.loop-j.invariant.0,
-  elim c.if-x-j.branch [
-    | then-x-j w ↦ rw w.output-is (turn c.loop-j.invariant.1 (omega arith) (rw w.if-x-j.true))
-    | else-x-j w ↦ rw w.output-is (turn c.loop-j.invariant.1 (omega arith) (rw w.if-x-j.false))
-  ],
-)
+loop-j-preserved c =
+    elim c.if-x-j.branch [
+      | then-x-j w ↦ rw w.colour-is (turn c.loop-j.invariant (omega arith) (rw w.if-x-j.true))
+      | else-x-j w ↦ rw w.colour-is (turn c.loop-j.invariant (omega arith) (rw w.if-x-j.false))
+    ]
 
 pub returns : goal.returns
-returns c = rw (← c.loop-j.invariant.0) (whole c.loop-j.invariant.1 (omega arith))
+returns c = rw (← c.requires) (whole c.loop-j.invariant (omega arith))

@@ -3,6 +3,7 @@ use Rattle.seq.specs.Sums.{plus_zero}
 use Rattle.chosen.specs.Entries.{entry_of}
 use Rattle.phased.specs.Phasing.{between}
 use Rattle.colored.proofs.Walks.{walk_begun, walk_falls, walk_few, walk_turn, walk_over, roomy_still}
+use Rattle.coloring.proofs.Marks.{some_free, none_free}
 use Rattle.seq.specs.Marks.{is_set}
 use Rattle.seq.proofs.Keeping.{count_short}
 use mathlib.Core.Path.{refl, sym, ◌∙◌}
@@ -10,40 +11,39 @@ use native.Mathlib.Omega.{arith}
 use lib.ListN.{length}
 use Rattle.coloring.proofs.walk_to_end.Goals as goal
 
-pub loop-left-init : goal.loop-left-init
-loop-left-init c = (
+pub loop-places-init : goal.loop-places-init
+loop-places-init c = (
   c.requires.1,
   refl,
   refl,
-  c.count_free-left.ensures,
   record { places = refl; subcols = refl; subscale = refl; subx = refl; subfree = refl; g = refl },
   walk_begun _ _ _ _ _ _ _ _ c.requires.2,
   omega (arith, count_short (is_set c.args.free.now) (length c.args.free.now), c.requires.1.marks),
 )
 
 pub slice_bounds-next_phase-end : goal.slice_bounds-next_phase-end
-slice_bounds-next_phase-end c = sym c.loop-left.invariant.4.places
+slice_bounds-next_phase-end c = sym c.loop-places.invariant.3.places
 
-pub slice_bounds-next_phase-end-in-loop-left : goal.slice_bounds-next_phase-end-in-loop-left
-slice_bounds-next_phase-end-in-loop-left c = sym c.loop-left.invariant.4.subcols
+pub slice_bounds-next_phase-end-in-loop-places : goal.slice_bounds-next_phase-end-in-loop-places
+slice_bounds-next_phase-end-in-loop-places c = sym c.loop-places.invariant.3.subcols
 
-pub slice_bounds-next_phase-end-in-loop-left-2 : goal.slice_bounds-next_phase-end-in-loop-left-2
-slice_bounds-next_phase-end-in-loop-left-2 c = sym c.loop-left.invariant.4.subscale
+pub slice_bounds-next_phase-end-in-loop-places-2 : goal.slice_bounds-next_phase-end-in-loop-places-2
+slice_bounds-next_phase-end-in-loop-places-2 c = sym c.loop-places.invariant.3.subscale
 
-pub slice_bounds-next_phase-end-in-loop-left-3 : goal.slice_bounds-next_phase-end-in-loop-left-3
-slice_bounds-next_phase-end-in-loop-left-3 c = sym c.loop-left.invariant.4.subx
+pub slice_bounds-next_phase-end-in-loop-places-3 : goal.slice_bounds-next_phase-end-in-loop-places-3
+slice_bounds-next_phase-end-in-loop-places-3 c = sym c.loop-places.invariant.3.subx
 
-pub slice_bounds-next_phase-end-in-loop-left-4 : goal.slice_bounds-next_phase-end-in-loop-left-4
-slice_bounds-next_phase-end-in-loop-left-4 c = sym c.loop-left.invariant.4.subfree
+pub slice_bounds-next_phase-end-in-loop-places-4 : goal.slice_bounds-next_phase-end-in-loop-places-4
+slice_bounds-next_phase-end-in-loop-places-4 c = sym c.loop-places.invariant.3.subfree
 
-pub slice_bounds-next_phase-end-in-loop-left-5 : goal.slice_bounds-next_phase-end-in-loop-left-5
-slice_bounds-next_phase-end-in-loop-left-5 c = sym c.loop-left.invariant.4.g
+pub slice_bounds-next_phase-end-in-loop-places-5 : goal.slice_bounds-next_phase-end-in-loop-places-5
+slice_bounds-next_phase-end-in-loop-places-5 c = sym c.loop-places.invariant.3.g
 
 pub next_phase-next-requires : goal.next_phase-next-requires
 next_phase-next-requires c =
     let few = c.requires.0.few in
-    let r = c.loop-left.invariant.4 in record {
-      chosen = (rw c.loop-left.invariant.2 c.requires.0, c.loop-left.invariant.0);
+    let r = c.loop-places.invariant.3 in record {
+      chosen = (rw c.loop-places.invariant.2 c.requires.0, c.loop-places.invariant.0);
       room_for_all = record {
         places = omega (arith, few, r.places);
         subcols = omega (arith, few, r.subcols);
@@ -57,67 +57,65 @@ next_phase-next-requires c =
 pub overflow_add-directions : goal.overflow_add-directions
 overflow_add-directions c =
     let a = c.args in
-    let l = c.loop-left in
+    let l = c.loop-places in
     let step = rw l.invariant.2 at (c.next_phase-next.ensures.goes l.directions) in
     omega (
       arith,
       c.requires.0.few,
-      l.invariant.6,
+      l.invariant.5,
       walk_few plus_zero (entry_of a.matrix.now a.bits.now a.n a.cols.now a.scale.now) (length a.cols.now)
-          (length a.blocked.now) (between (length a.blocked.now) l.numbers l.x l.free l.r l.directions) _ step
-          (λ z. omega (arith, l.invariant.3, c.loop-left-test.true)) l.invariant.0.marks,
+          (length a.blocked.now) (between (length a.blocked.now) l.numbers l.x l.free l.rng l.directions) _ step
+          (some_free l.free (sym c.contains.ensures.value ∙ c.loop-places-test.true)) l.invariant.0.marks,
     )
 
-pub loop-left-smaller : goal.loop-left-smaller
-loop-left-smaller c =
+pub loop-places-smaller : goal.loop-places-smaller
+loop-places-smaller c =
     let a = c.args in
-    let l = c.loop-left in
+    let l = c.loop-places in
     let step = rw l.invariant.2 at (c.next_phase-next.ensures.goes l.directions) in
     omega (
       arith,
-      c.count_free-left-in-loop-left.ensures,
-      l.invariant.3,
       walk_falls plus_zero (entry_of a.matrix.now a.bits.now a.n a.cols.now a.scale.now) (length a.cols.now)
-          (length a.blocked.now) (between (length a.blocked.now) l.numbers l.x l.free l.r l.directions) _ step
-          (λ z. omega (arith, l.invariant.3, c.loop-left-test.true)),
+          (length a.blocked.now) (between (length a.blocked.now) l.numbers l.x l.free l.rng l.directions) _ step
+          (some_free l.free (sym c.contains.ensures.value ∙ c.loop-places-test.true)),
     )
 
-pub loop-left-preserved : goal.loop-left-preserved
-loop-left-preserved c =
+pub loop-places-preserved : goal.loop-places-preserved
+loop-places-preserved c =
     let a = c.args in
-    let l = c.loop-left in
+    let l = c.loop-places in
     let step = rw l.invariant.2 at (c.next_phase-next.ensures.goes l.directions) in
     let kept = c.next_phase-next.auto in (
       roomy_still _ _ _ _ _ _ _ _ _ l.invariant.0 kept.numbers kept.blocked kept.x kept.free,
       kept.numbers ∙ l.invariant.1,
       kept.blocked ∙ l.invariant.2,
-      c.count_free-left-in-loop-left.ensures,
       record {
-        places = kept.places ∙ l.invariant.4.places;
-        subcols = kept.subcols ∙ l.invariant.4.subcols;
-        subscale = kept.subscale ∙ l.invariant.4.subscale;
-        subx = kept.subx ∙ l.invariant.4.subx;
-        subfree = kept.subfree ∙ l.invariant.4.subfree;
-        g = kept.g ∙ l.invariant.4.g;
+        places = kept.places ∙ l.invariant.3.places;
+        subcols = kept.subcols ∙ l.invariant.3.subcols;
+        subscale = kept.subscale ∙ l.invariant.3.subscale;
+        subx = kept.subx ∙ l.invariant.3.subx;
+        subfree = kept.subfree ∙ l.invariant.3.subfree;
+        g = kept.g ∙ l.invariant.3.g;
       },
-      l.invariant.5 ∙ walk_turn plus_zero (entry_of a.matrix.now a.bits.now a.n a.cols.now a.scale.now) (length a.cols.now)
-          (length a.blocked.now) (between (length a.blocked.now) l.numbers l.x l.free l.r l.directions) _ step
-          (λ z. omega (arith, l.invariant.3, c.loop-left-test.true)),
+      l.invariant.4 ∙ walk_turn plus_zero (entry_of a.matrix.now a.bits.now a.n a.cols.now a.scale.now) (length a.cols.now)
+          (length a.blocked.now) (between (length a.blocked.now) l.numbers l.x l.free l.rng l.directions) _ step
+          (some_free l.free (sym c.contains.ensures.value ∙ c.loop-places-test.true)),
       omega (
         arith,
-        l.invariant.6,
+        l.invariant.5,
         walk_few plus_zero (entry_of a.matrix.now a.bits.now a.n a.cols.now a.scale.now) (length a.cols.now)
-            (length a.blocked.now) (between (length a.blocked.now) l.numbers l.x l.free l.r l.directions) _ step
-            (λ z. omega (arith, l.invariant.3, c.loop-left-test.true)) l.invariant.0.marks,
+            (length a.blocked.now) (between (length a.blocked.now) l.numbers l.x l.free l.rng l.directions) _ step
+            (some_free l.free (sym c.contains.ensures.value ∙ c.loop-places-test.true)) l.invariant.0.marks,
       ),
     )
 
 pub returns : goal.returns
 returns c =
     let a = c.args in
-    let l = c.loop-left in
+    let l = c.loop-places in
     record {
       ends = sym
-          (l.invariant.5 ∙ walk_over plus_zero (entry_of a.matrix.now a.bits.now a.n a.cols.now a.scale.now) (length a.cols.now)
-          (length a.blocked.now) (between (length a.blocked.now) l.numbers l.x l.free l.r l.directions) (omega arith));
+          (l.invariant.4 ∙ walk_over plus_zero (entry_of a.matrix.now a.bits.now a.n a.cols.now a.scale.now) (length a.cols.now)
+          (length a.blocked.now) (between (length a.blocked.now) l.numbers l.x l.free l.rng l.directions)
+          (none_free l.free (sym c.contains.ensures.value ∙ c.loop-places-test.false)));
     }

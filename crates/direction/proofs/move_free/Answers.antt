@@ -1,6 +1,6 @@
 -- `direction::move_free` meets its contract: after p turns the first p places are moved; a turn stores, or the place is right already.
 use Rattle.ieee.proofs.Magnitudes.{minus_one_lem}
-use Rattle.seq.proofs.Filling.{skip, start, turn, still, whole}
+use Rattle.seq.proofs.Filling.{start, turn, still, whole}
 use borrow.Author.Tests.{ne_eqb, eq-eqb}
 use Rattle.direction.specs.Step.{moved}
 use mathlib.Core.Path.{◌∙◌}
@@ -17,7 +17,8 @@ loop-p-preserved c =
     elim c.if-free-p-eq1.branch [
       | then-free-p-eq1 w ↦ rw w.x-is (turn c.loop-p.invariant (omega arith)
           (w.clamp.ensures ∙ rw (eq-eqb _ _ w.if-free-p-eq1.true, still c.loop-p.invariant (omega arith) nan, minus_one_lem)))
-      | else-free-p-eq1 w ↦ rw w.x-is (skip nan c.loop-p.invariant (omega arith) (rw (ne_eqb _ _ w.if-free-p-eq1.false)))
+      | else-free-p-eq1 w ↦ rw w.x-is (turn c.loop-p.invariant (omega arith)
+          (rw (ne_eqb _ _ w.if-free-p-eq1.false) (still c.loop-p.invariant (omega arith) nan)))
     ]
 
 pub returns : goal.returns

@@ -1,12 +1,7 @@
 -- `direction::reach` meets its contract: after p turns the step is the smallest reach below p; each way through a turn is a law.
 use Rattle.direction.specs.Step.{reach_to}
-use Prim.Native.Nat.{◌-◌, ◌≤◌}
 use mathlib.Core.Path.{◌≡◌}
-use lib.ListN.{length}
 use Rattle.direction.proofs.reach.Given as goal
 
 abbrev pub invariant-loop-p : goal.invariant-loop-p
-invariant-loop-p l = (l.p ≤ length l.x) × (l.step ≡ reach_to l.x l.g l.free l.p)
-
-abbrev pub decreases-loop-p : goal.decreases-loop-p
-decreases-loop-p l = length l.x - l.p
+invariant-loop-p l = l.step ≡ reach_to l.x l.g l.free l.p

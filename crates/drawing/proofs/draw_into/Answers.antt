@@ -7,18 +7,18 @@ use native.Mathlib.Numerals.{add-one}
 use lib.ListN.{length}
 use Rattle.drawing.proofs.draw_into.Goals as goal
 
-pub loop-i-init : goal.loop-i-init
+pub loop-x-init : goal.loop-x-init
 unfolding after_draws
-loop-i-init c = (start _ _, refl)
+loop-x-init c = (start _ _, refl)
 
-pub loop-i-preserved : goal.loop-i-preserved
+pub loop-x-preserved : goal.loop-x-preserved
 unfolding draw_at after_draws
-loop-i-preserved c = (
-  turn c.loop-i.invariant.0 (omega arith) (c.gaussian-d.ensures.0 ∙ rw c.loop-i.invariant.1),
-  c.gaussian-d.ensures.1 ∙ rw (add-one, c.loop-i.invariant.1),
+loop-x-preserved c = (
+  turn c.loop-x.invariant.0 (omega arith) (c.gaussian.ensures.0 ∙ rw c.loop-x.invariant.1),
+  c.gaussian.ensures.1 ∙ rw (add-one, c.loop-x.invariant.1),
 )
 
 pub returns : goal.returns
 returns c =
-    let done : c.loop-i.i ≡ length c.args.g.now = omega arith in
-    (whole c.loop-i.invariant.0 (omega arith), rw (← done) c.loop-i.invariant.1)
+    let done : c.loop-x.x-index ≡ length c.args.g.now = omega arith in
+    (whole c.loop-x.invariant.0 (omega arith), rw (← done) c.loop-x.invariant.1)

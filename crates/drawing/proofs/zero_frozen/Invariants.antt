@@ -2,12 +2,7 @@
 -- already.
 use Rattle.seq.proofs.Filling.{Filled}
 use Rattle.direction.specs.Direction.{zeroed_at}
-use Prim.Native.Nat.{◌-◌}
-use lib.ListN.{length}
 use Rattle.drawing.proofs.zero_frozen.Given as goal
 
 abbrev pub invariant-loop-p : goal.invariant-loop-p
 invariant-loop-p l = Filled (zeroed_at l.free l.initial.g) l.initial.g l.p l.g
-
-abbrev pub decreases-loop-p : goal.decreases-loop-p
-decreases-loop-p l = length l.initial.g - l.p

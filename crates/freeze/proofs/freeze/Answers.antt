@@ -8,7 +8,7 @@ use Rattle.chosen.specs.Entries.{entry_of}
 use native.Mathlib.Omega.{arith}
 use lib.ListN.{length}
 use Rattle.freeze.proofs.freeze.Goals as goal
-use Rattle.freeze.proofs.freeze.Goals.{then-free-p-eq1+then-abs, then-free-p-eq1+else-abs, else-free-p-eq1}
+use Rattle.freeze.proofs.freeze.Goals.{then-free-p-eq1+then-abs, else-free-p-eq1, else-free-p-eq1-via-then-free-p-eq1+else-abs, else-free-p-eq1-via-else-free-p-eq1}
 
 pub loop-p-init : goal.loop-p-init
 loop-p-init c =
@@ -16,8 +16,8 @@ loop-p-init c =
     freezing_start _ _ a.numbers.now a.blocked.now a.x.now a.free.now a.v.now _ _
     c.requires.1
 
-pub freeze_at-count-requires : goal.freeze_at-count-requires
-freeze_at-count-requires c =
+pub freeze_at-requires : goal.freeze_at-requires
+freeze_at-requires c =
     let p = c.requires in
     let i = c.loop-p.invariant in
     (rw i.rows p.0, i.roomy, i.vs ∙ p.2, c.loop-p-test.true)
@@ -29,23 +29,21 @@ loop-p-preserved c =
     let e = entry_of a.matrix.now a.bits.now a.n a.cols.now a.scale.now in
     let l = length a.cols.now in
     elim c.if-free-p-eq1.branch [
-      | then-free-p-eq1+then-abs w ↦ rw (w.numbers-is, w.blocked-is, w.x-is, w.free-is, w.v-is, w.count-is, w.frozen-is)
+      | then-free-p-eq1+then-abs w ↦ rw (w.numbers-is, w.blocked-is, w.x-is, w.free-is, w.v-is, w.f-is)
           (freezing_one e l a.numbers.now a.blocked.now a.x.now a.free.now a.v.now
           a.from.count a.from.frozen s.numbers s.blocked s.x s.free s.v
-          s.count s.frozen s.p s.invariant c.loop-p-test.true _ _ _ _ _ _
-          (freezes_near s.numbers s.blocked s.x s.free s.count s.frozen s.p w.abs.result w.if-free-p-eq1.true w.abs.ensures w.if-abs.true)
-          w.freeze_at-count.auto.numbers w.freeze_at-count.auto.blocked w.freeze_at-count.auto.x w.freeze_at-count.auto.free
-          w.freeze_at-count.auto.v w.freeze_at-count.ensures)
-      | then-free-p-eq1+else-abs w ↦ rw (w.numbers-is, w.blocked-is, w.x-is, w.free-is, w.v-is, w.count-is, w.frozen-is)
+          s.f.count s.f.frozen s.p s.invariant c.loop-p-test.true _ _ _ _ _ _
+          (freezes_near s.numbers s.blocked s.x s.free s.f.count s.f.frozen s.p w.abs.result w.if-free-p-eq1.true w.abs.ensures w.if-abs.true)
+          w.freeze_at.auto.numbers w.freeze_at.auto.blocked w.freeze_at.auto.x w.freeze_at.auto.free w.freeze_at.auto.v w.freeze_at.ensures)
+      | else-free-p-eq1 w ↦ rw (w.numbers-is, w.blocked-is, w.x-is, w.free-is, w.v-is, w.f-is)
           (freezing_none e l a.numbers.now a.blocked.now a.x.now a.free.now a.v.now
           a.from.count a.from.frozen s.numbers s.blocked s.x s.free s.v
-          s.count s.frozen s.p s.invariant c.loop-p-test.true
-          (freezes_far s.numbers s.blocked s.x s.free s.count s.frozen s.p w.abs.result w.if-free-p-eq1.true w.abs.ensures w.if-abs.false))
-      | else-free-p-eq1 w ↦ rw (w.numbers-is, w.blocked-is, w.x-is, w.free-is, w.v-is, w.count-is, w.frozen-is)
-          (freezing_none e l a.numbers.now a.blocked.now a.x.now a.free.now a.v.now
-          a.from.count a.from.frozen s.numbers s.blocked s.x s.free s.v
-          s.count s.frozen s.p s.invariant c.loop-p-test.true
-          (freezes_not s.numbers s.blocked s.x s.free s.count s.frozen s.p w.if-free-p-eq1.false))
+          s.f.count s.f.frozen s.p s.invariant c.loop-p-test.true
+          (elim w.else-free-p-eq1.branch [
+            | else-free-p-eq1-via-then-free-p-eq1+else-abs w' ↦ freezes_far s.numbers s.blocked s.x s.free s.f.count s.f.frozen s.p
+                w'.abs.result w'.if-free-p-eq1.true w'.abs.ensures w'.if-abs.false
+            | else-free-p-eq1-via-else-free-p-eq1 w' ↦ freezes_not s.numbers s.blocked s.x s.free s.f.count s.f.frozen s.p w'.if-free-p-eq1.false
+          ]))
     ]
 
 pub returns : goal.returns

@@ -33,13 +33,13 @@ pub double_or_zero-requires : goal.double_or_zero-requires
 double_or_zero-requires c =
     (c.coloring-c.auto.x ∙ c.requires.0.colours, c.requires.0.inside)
 
-pub overflow_add-directions : goal.overflow_add-directions
-overflow_add-directions c =
+pub overflow_add-result : goal.overflow_add-result
+overflow_add-result c =
     let fit = directions_fit _ _ _ _ _ c.requires.1 c.requires.0.few c.coloring-c.ensures in
     omega (arith, fit)
 
-pub overflow_add-sweeps : goal.overflow_add-sweeps
-overflow_add-sweeps c =
+pub overflow_add-result-2 : goal.overflow_add-result-2
+overflow_add-result-2 c =
     let fit = sweeps_fit _ _ _ _ _ c.requires.1 c.requires.0.few c.coloring-c.ensures in
     omega (arith, fit)
 

@@ -6,7 +6,7 @@ use Rattle.interface.proofs.next_gaussian.Goals as goal
 
 pub returns : goal.returns
 returns c =
-    let started = c.new.ensures in
+    let started = c.new-rng.ensures in
     record {
       value = c.gaussian-d.ensures.0 ∙ ap gaussian_of started;
       moved = ap (λ (rng : SplitMix64). rng.state) (c.gaussian-d.ensures.1 ∙ ap after_gaussian started);

@@ -7,7 +7,7 @@ use Rattle.interface.proofs.next_uniform.Goals as goal
 
 pub returns : goal.returns
 returns c =
-    let started = c.new.ensures in
+    let started = c.new-rng.ensures in
     record {
       value = c.uniform-u.ensures.0 ∙ ap uniform_in started;
       moved = ap (λ (rng : SplitMix64). rng.state) (c.uniform-u.ensures.1 ∙ ap after_of started);

@@ -1,7 +1,7 @@
 -- `toallowance::to_allowance` meets its contract: the loop stands on the path of the stages, at one that does not close it, each is noted, and the nonzeros
 -- fall with
 -- each pass.
-use borrow.Author.Tests.{not-true, not-false}
+use denote.Enum.Bare.{sameb}
 use Prim.Native.Nat.{◌<◌}
 use mathlib.Core.Bool.{true, false}
 use mathlib.Core.Path.{◌≡◌, refl, sym, ap, ◌∙◌}
@@ -16,11 +16,36 @@ use Rattle.weights.specs.Weights.{nonzeros}
 use Rattle.halved.proofs.Calls.{ready_still}
 use Rattle.tried.proofs.Trying.{lent_of}
 use Rattle.rules.specs.declared.Rule.TheVariants.{Within}
+use Rattle.tried.specs.contracts.Outcome.{the_type}
+use Rattle.tried.specs.declared.Outcome.{Outcome}
+use Rattle.tried.specs.declared.Outcome.TheVariants.{Discarded, Last, Onward}
+use Rattle.tried.specs.Trial.{was_taken, goes_onward}
 use Rattle.stages.proofs.Passing.{normal_bounded, falling}
 use Rattle.stages.proofs.Following.{on_start, on_tallied, tried_tallied, opens, eight, note, note_first, noted}
 use Rattle.stages.proofs.Following.{allowance_met, allowance_left, allowance_on, allowance_fewer, allowance_goes, allowance_last, measured}
 use Rattle.stages.proofs.Totals.{countable_at}
 use Rattle.toallowance.proofs.to_allowance.Goals as goal
+
+-- what the two tests of an outcome say
+discarded : (o : Outcome) → sameb the_type o Discarded ≡ true → was_taken o ≡ false
+discarded Discarded e = refl
+discarded Last e = cc
+discarded Onward e = cc
+
+not_discarded : (o : Outcome) → sameb the_type o Discarded ≡ false → was_taken o ≡ true
+not_discarded Discarded e = cc
+not_discarded Last e = refl
+not_discarded Onward e = refl
+
+is_last : (o : Outcome) → sameb the_type o Last ≡ true → goes_onward o ≡ false
+is_last Discarded e = refl
+is_last Last e = refl
+is_last Onward e = cc
+
+not_last : (o : Outcome) → was_taken o ≡ true → sameb the_type o Last ≡ false → goes_onward o ≡ true
+not_last Discarded t e = cc
+not_last Last t e = cc
+not_last Onward t e = refl
 
 pub change_of-requires : goal.change_of-requires
 change_of-requires c =
@@ -90,7 +115,7 @@ loop-left-smaller c =
     let a = c.args in
     let inv = c.loop-left.invariant in
     let some : 1 < nonzeros c.loop-left.w = omega (arith, inv.3, c.loop-left-test.true) in
-    let taken = not-false c.try_pass-t.result.taken c.if-not-t.false in
+    let taken = not_discarded _ (sym c.eq.ensures ∙ c.if-eq.false) in
     allowance_fewer (read_of a.matrix.now a.bits.now a.n) a.n a.start.now a.source inv.1 c.requires.4 inv.0 inv.4 some
     c.try_pass-t.ensures taken
 
@@ -100,8 +125,8 @@ loop-left-preserved c =
     let inv = c.loop-left.invariant in
     let k = c.try_pass-t.auto in
     let some : 1 < nonzeros c.loop-left.w = omega (arith, inv.3, c.loop-left-test.true) in
-    let taken = not-false c.try_pass-t.result.taken c.if-not-t.false in
-    let more = not-false c.try_pass-t.result.more c.if-not-t-2.false in
+    let taken = not_discarded _ (sym c.eq.ensures ∙ c.if-eq.false) in
+    let more = not_last _ taken (sym c.eq-in-loop-left.ensures ∙ c.if-eq-2.false) in
     let on = allowance_on (read_of a.matrix.now a.bits.now a.n) a.n a.start.now a.source inv.1 c.requires.4 inv.0 inv.4 some
     c.try_pass-t.ensures taken in (
       on,
@@ -132,16 +157,16 @@ returns-after-loop-left c =
     (noted (read_of a.matrix.now a.bits.now a.n) a.n a.start.now a.source inv.0.near inv.2
     (on_tallied (read_of a.matrix.now a.bits.now a.n) a.n a.start.now a.source inv.0) _ refl refl refl refl refl))
 
-pub shape_of-w-then-not-t : goal.shape_of-w-then-not-t
-shape_of-w-then-not-t c =
+pub shape_of-w-then-eq : goal.shape_of-w-then-eq
+shape_of-w-then-eq c =
     c.try_pass-t.auto.w ∙ c.loop-left.invariant.0.long ∙ sym (ap length c.requires.2)
 
-pub returns-then-not-t : goal.returns-then-not-t
-returns-then-not-t c =
+pub returns-then-eq : goal.returns-then-eq
+returns-then-eq c =
     let a = c.args in
     let inv = c.loop-left.invariant in
     let some : 1 < nonzeros c.loop-left.w = omega (arith, inv.3, c.loop-left-test.true) in
-    let left = not-true c.try_pass-t.result.taken c.if-not-t.true in
+    let left = discarded _ (sym c.eq.ensures ∙ c.if-eq.true) in
     rw c.requires.2
     (allowance_left (read_of a.matrix.now a.bits.now a.n) a.n a.start.now a.source inv.1 c.requires.4 inv.0 inv.4 some
     c.try_pass-t.ensures left
@@ -149,17 +174,17 @@ returns-then-not-t c =
     (tried_tallied (read_of a.matrix.now a.bits.now a.n) a.n a.start.now a.source inv.1 c.requires.4 inv.0 inv.4 some
     c.try_pass-t.ensures) _ refl refl refl refl refl))
 
-pub shape_of-w-then-not-t-2 : goal.shape_of-w-then-not-t-2
-shape_of-w-then-not-t-2 c =
+pub shape_of-w-then-eq-2 : goal.shape_of-w-then-eq-2
+shape_of-w-then-eq-2 c =
     c.try_pass-t.auto.w ∙ c.loop-left.invariant.0.long ∙ sym (ap length c.requires.2)
 
-pub returns-then-not-t-2 : goal.returns-then-not-t-2
-returns-then-not-t-2 c =
+pub returns-then-eq-2 : goal.returns-then-eq-2
+returns-then-eq-2 c =
     let a = c.args in
     let inv = c.loop-left.invariant in
     let some : 1 < nonzeros c.loop-left.w = omega (arith, inv.3, c.loop-left-test.true) in
-    let taken = not-false c.try_pass-t.result.taken c.if-not-t.false in
-    let last = not-true c.try_pass-t.result.more c.if-not-t-2.true in
+    let taken = not_discarded _ (sym c.eq.ensures ∙ c.if-eq.false) in
+    let last = is_last _ (sym c.eq-in-loop-left.ensures ∙ c.if-eq-2.true) in
     let on = allowance_on (read_of a.matrix.now a.bits.now a.n) a.n a.start.now a.source inv.1 c.requires.4 inv.0 inv.4 some
     c.try_pass-t.ensures taken in
     let path = note (read_of a.matrix.now a.bits.now a.n) a.n a.start.now a.source on c.count_nonzeros-left-in-loop-left.ensures

@@ -44,8 +44,8 @@ loop-left-init c =
       refl,
     )
 
-pub halving_pass-after-requires : goal.halving_pass-after-requires
-halving_pass-after-requires c =
+pub halving_pass-tally-requires : goal.halving_pass-tally-requires
+halving_pass-tally-requires c =
     let a = c.args in
     let inv = c.loop-left.invariant in (
       ready_still c.requires.0 (inv.0.long ∙ sym (ap length c.requires.2)) inv.4 inv.5,
@@ -70,7 +70,7 @@ bounds-nonzeros-stage-in-loop-left c =
 pub change_of-requires-in-loop-left : goal.change_of-requires-in-loop-left
 change_of-requires-in-loop-left c = (
   lent_of c.args.start.now c.requires.0 (sym (ap length c.requires.2)),
-  c.halving_pass-after.auto.w ∙ c.loop-left.invariant.0.long,
+  c.halving_pass-tally.auto.w ∙ c.loop-left.invariant.0.long,
 )
 
 pub offset_bounds-change-stage-in-loop-left : goal.offset_bounds-change-stage-in-loop-left
@@ -87,15 +87,15 @@ loop-left-smaller c =
     let a = c.args in
     let inv = c.loop-left.invariant in
     target_fewer (read_of a.matrix.now a.bits.now a.n) a.n a.start.now a.source inv.1 c.requires.3 inv.0
-    (omega (arith, inv.3, c.loop-left-test.true)) c.halving_pass-after.ensures
+    (omega (arith, inv.3, c.loop-left-test.true)) c.halving_pass-tally.ensures
 
 pub loop-left-preserved : goal.loop-left-preserved
 loop-left-preserved c =
     let a = c.args in
     let inv = c.loop-left.invariant in
-    let k = c.halving_pass-after.auto in
+    let k = c.halving_pass-tally.auto in
     let on = target_next (read_of a.matrix.now a.bits.now a.n) a.n a.start.now a.source inv.1 c.requires.3 inv.0
-    (omega (arith, inv.3, c.loop-left-test.true)) c.halving_pass-after.ensures in (
+    (omega (arith, inv.3, c.loop-left-test.true)) c.halving_pass-tally.ensures in (
       on,
       inv.1,
       note (read_of a.matrix.now a.bits.now a.n) a.n a.start.now a.source on c.count_nonzeros-left-in-loop-left.ensures c.change_of-in-loop-left.ensures

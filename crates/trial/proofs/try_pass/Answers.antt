@@ -22,15 +22,24 @@ returns-then-ends_there c =
     let a = c.args in
     left_tried (read_of a.matrix.now a.bits.now a.n) a.n a.start.now a.allowance a.cap a.w.now a.tally
     c.copy.ensures c.halving_pass-after.ensures c.change_of-change.ensures
-    (sym c.ends_there.ensures ∙ c.if-ends_there.true) _ refl refl refl refl
+    (sym c.ends_there.ensures ∙ c.if-ends_there.true) _ refl refl refl
 
 pub copy-requires-2 : goal.copy-requires-2
 copy-requires-2 c =
     sym (c.halving_pass-after.auto.w ∙ ap length c.copy.ensures)
 
-pub returns : goal.returns
-returns c =
+pub returns-then-ends_there-2 : goal.returns-then-ends_there-2
+returns-then-ends_there-2 c =
     let a = c.args in
     taken_tried (read_of a.matrix.now a.bits.now a.n) a.n a.start.now a.allowance a.cap a.w.now a.tally
     c.copy.ensures c.halving_pass-after.ensures c.change_of-change.ensures
-    (sym c.ends_there.ensures ∙ c.if-ends_there.false) _ c.copy-2.ensures _ refl refl refl (ap not c.ends_there-ends.ensures)
+    (sym c.ends_there.ensures ∙ c.if-ends_there.false) _ c.copy-2.ensures _ refl refl refl
+    (sym (ap not (sym c.ends_there-2.ensures ∙ c.if-ends_there-2.true)))
+
+pub returns-else-ends_there-2 : goal.returns-else-ends_there-2
+returns-else-ends_there-2 c =
+    let a = c.args in
+    taken_tried (read_of a.matrix.now a.bits.now a.n) a.n a.start.now a.allowance a.cap a.w.now a.tally
+    c.copy.ensures c.halving_pass-after.ensures c.change_of-change.ensures
+    (sym c.ends_there.ensures ∙ c.if-ends_there.false) _ c.copy-2.ensures _ refl refl refl
+    (sym (ap not (sym c.ends_there-2.ensures ∙ c.if-ends_there-2.false)))

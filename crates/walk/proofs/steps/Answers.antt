@@ -1,5 +1,4 @@
 -- `walk::steps` meets its contract: what is left of the phase is the whole phase. The measure is how many coordinates are free.
-use borrow.Author.Tests.{not-true, not-false}
 use Rattle.chosen.specs.Entries.{entry_of}
 use Rattle.blocking.specs.Held.{held}
 use Rattle.walked.proofs.Phases.{going_start, going-full, going-last, fewer_free, going_on}
@@ -15,26 +14,26 @@ loop-at-init c =
     a.blocked.now a.x.now a.free.now a.g.now a.from.count a.from.frozen a.from.rng
     c.requires.1 c.requires.3
 
-pub step-s-requires : goal.step-s-requires
-step-s-requires c =
+pub step-more-requires : goal.step-more-requires
+step-more-requires c =
     let p = c.requires in
     let i = c.loop-at.invariant in
     (rw i.rows p.0, i.roomy, i.gs ∙ p.2, omega (arith, i.few, p.0.few))
 
-pub overflow_add-drawn : goal.overflow_add-drawn
-overflow_add-drawn c =
+pub overflow_add-directions : goal.overflow_add-directions
+overflow_add-directions c =
     omega (arith, c.loop-at.invariant.drawn_few, c.loop-at.invariant.few, c.requires.0.few)
 
-pub returns-then-not-s : goal.returns-then-not-s
-returns-then-not-s c =
+pub returns-then-not-more : goal.returns-then-not-more
+returns-then-not-more c =
     let a = c.args in
     let s = c.loop-at in
     let w = held a.numbers.now a.blocked.now a.x.now a.free.now a.from.count a.from.frozen a.from.rng in
     going-last (entry_of a.matrix.now a.bits.now a.n a.cols.now a.scale.now) (length a.cols.now) a.numbers.now a.blocked.now
     a.x.now a.free.now a.g.now w s.numbers s.blocked s.x s.free s.g s.at.count s.at.frozen
-    s.at.rng s.directions s.invariant c.step-s.new.numbers c.step-s.new.blocked c.step-s.new.x
-    c.step-s.new.free c.step-s.result c.loop-at-test.true c.step-s.ensures
-    (not-true _ c.if-not-s.true)
+    s.at.rng s.directions s.invariant c.step-more.new.numbers c.step-more.new.blocked c.step-more.new.x
+    c.step-more.new.free c.step-more.new.at c.step-more.result c.loop-at-test.true c.step-more.ensures
+    c.if-not-more.true
 
 pub loop-at-smaller : goal.loop-at-smaller
 loop-at-smaller c =
@@ -43,9 +42,9 @@ loop-at-smaller c =
     let w = held a.numbers.now a.blocked.now a.x.now a.free.now a.from.count a.from.frozen a.from.rng in
     fewer_free (entry_of a.matrix.now a.bits.now a.n a.cols.now a.scale.now) (length a.cols.now) a.numbers.now a.blocked.now
     a.x.now a.free.now a.g.now w s.numbers s.blocked s.x s.free s.g s.at.count s.at.frozen
-    s.at.rng s.directions s.invariant c.step-s.new.numbers c.step-s.new.blocked c.step-s.new.x
-    c.step-s.new.free c.step-s.result c.loop-at-test.true c.step-s.ensures
-    (not-false _ c.if-not-s.false)
+    s.at.rng s.directions s.invariant c.step-more.new.numbers c.step-more.new.blocked c.step-more.new.x
+    c.step-more.new.free c.step-more.new.at c.step-more.result c.loop-at-test.true c.step-more.ensures
+    c.if-not-more.false
 
 pub loop-at-preserved : goal.loop-at-preserved
 loop-at-preserved c =
@@ -54,14 +53,14 @@ loop-at-preserved c =
     let w = held a.numbers.now a.blocked.now a.x.now a.free.now a.from.count a.from.frozen a.from.rng in
     going_on (entry_of a.matrix.now a.bits.now a.n a.cols.now a.scale.now) (length a.cols.now) a.numbers.now a.blocked.now
     a.x.now a.free.now a.g.now w s.numbers s.blocked s.x s.free s.g s.at.count s.at.frozen
-    s.at.rng s.directions s.invariant c.step-s.new.numbers c.step-s.new.blocked c.step-s.new.x
-    c.step-s.new.free c.step-s.result c.loop-at-test.true c.step-s.ensures
-    c.step-s.new.g (not-false _ c.if-not-s.false) c.step-s.auto.numbers
-    c.step-s.auto.blocked c.step-s.auto.x c.step-s.auto.free
-    c.step-s.auto.g
+    s.at.rng s.directions s.invariant c.step-more.new.numbers c.step-more.new.blocked c.step-more.new.x
+    c.step-more.new.free c.step-more.new.at c.step-more.result c.loop-at-test.true c.step-more.ensures
+    c.step-more.new.g c.if-not-more.false c.step-more.auto.numbers
+    c.step-more.auto.blocked c.step-more.auto.x c.step-more.auto.free
+    c.step-more.auto.g
 
-pub returns : goal.returns
-returns c =
+pub returns-after-loop-at : goal.returns-after-loop-at
+returns-after-loop-at c =
     let a = c.args in
     let s = c.loop-at in
     let w = held a.numbers.now a.blocked.now a.x.now a.free.now a.from.count a.from.frozen a.from.rng in

@@ -7,4 +7,4 @@ pub returns : goal.returns
 unfolding advanced output_of after_of
 returns c =
     let gain = c.wrapping_add_u64-state.ensures.value in
-    (c.mix.ensures ∙ ap mixed gain, ap (λ (state : ℕ). seeded state c.args.self.edition) gain)
+    (c.mix.ensures ∙ ap mixed gain, ap (λ (state : ℕ). seeded state c.args.self.now.edition) gain)

@@ -1,0 +1,2 @@
+-- Marks that are set, and how many.
+pub mod Marks
