@@ -3,27 +3,18 @@
 
 ghost use Rattle.std.specs.Prelude.{◌≡◌, ◌+◌, ◌-◌, ◌*◌, ◌/◌, ◌%◌, ◌^◌, ◌<◌, ◌≤◌};
 
-// The upper 64 bits of u * v, by the products of halves: `second` is what the two columns below the highest carry on.
+// The upper 64 bits of u * v.
 pub fn upper(u: u64, v: u64) -> u64
     ensures { result ≡ u * v / 2 ^ 64 }
 {
-    let low_u = u % 4294967296;
-    let low_v = v % 4294967296;
-    let high_u = u / 4294967296;
-    let high_v = v / 4294967296;
-    let first = high_u * low_v + low_u * low_v / 4294967296;
-    let second = low_u * high_v + first % 4294967296;
-    high_u * high_v + first / 4294967296 + second / 4294967296
+    ((u as u128 * v as u128) >> 64) as u64
 }
 
 // The lower 64 bits of u * v.
 pub fn lower(u: u64, v: u64) -> u64
     ensures { result ≡ u * v % 2 ^ 64 }
 {
-    let u0 = u % 4294967296;
-    let v0 = v % 4294967296;
-    let across = ((u / 4294967296) * v0) % 4294967296 + (u0 * (v / 4294967296)) % 4294967296;
-    std::num::wrapping_add_u64(u0 * v0, across << 32)
+    u.wrapping_mul(v)
 }
 
 // n - p of numbers of two words each. An answer of 2^64 - 1 promises nothing: the difference may be negative, or of two words.
@@ -31,9 +22,8 @@ pub fn excess(n1: u64, n0: u64, p1: u64, p0: u64) -> u64
     requires { p1 < 2 ^ 64 - 1 }
     ensures { result < 2 ^ 64 - 1 → n1 * 2 ^ 64 + n0 ≡ p1 * 2 ^ 64 + p0 + result }
 {
-    let borrow = (n0 < p0) as u64;
-    let rest = std::num::wrapping_sub_u64(n0, p0);
-    if p1 + borrow == n1 {
+    let (rest, borrow) = n0.overflowing_sub(p0);
+    if p1 + borrow as u64 == n1 {
         rest
     } else {
         0xffff_ffff_ffff_ffff
