@@ -30,13 +30,8 @@ pub fn unit(plus: u64, minus: u64) -> f64
     requires { plus < 2 ^ 62 }
     ensures { result ≡ difference_of plus minus }
 {
-    let high = plus + 2251799813685248;
-    let above = if minus < high { high - minus } else { 0 };
-    let kept = if above < 4503599627370496 {
-        above
-    } else {
-        4503599627370496
-    };
+    let above = (plus + 2251799813685248).saturating_sub(minus);
+    let kept = above.min(4503599627370496);
     ((kept as f64) - 2251799813685248.0) / 2251799813685248.0
 }
 
