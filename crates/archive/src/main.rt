@@ -8,7 +8,6 @@ ghost use Rattle.std.specs.Prelude.{◌≤◌, ◌<◌, length};
 use answers::Answer;
 use draw::SplitMix64;
 use report::{print_answer, print_path, print_totals, print_weights, put};
-use rules::Cap;
 use sparsification::{sparsify, sparsify_within};
 use std::io;
 use std::io::Write;
@@ -245,11 +244,11 @@ fn allowance_of(a: f64) -> f64 {
 }
 
 // The cap that the table means.
-fn cap_of(cap: usize) -> Cap {
+fn cap_of(cap: usize) -> Option<usize> {
     if cap == 0 {
-        Cap::Absent
+        None
     } else {
-        Cap::AtMost(cap)
+        Some(cap)
     }
 }
 

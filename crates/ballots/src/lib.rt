@@ -9,7 +9,7 @@ ghost use Rattle.bitfaults.specs.Ballots.{BitsThinned};
 use answers::{Answer, refused};
 use bitfaults::votes_fault;
 use draw::SplitMix64;
-use rules::{Cap, Rule};
+use rules::Rule;
 use sparsification::{Job, thin_sound};
 
 // Thins as the job says, from bits.
@@ -100,7 +100,7 @@ pub fn sparsify_within_bits(
     seed: u64,
     edition: u32,
     allowance: f64,
-    cap: Cap,
+    cap: Option<usize>,
     output: &mut [f64],
     numbers: &mut [f64],
     indices: &mut [u32],

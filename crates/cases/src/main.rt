@@ -7,7 +7,6 @@ ghost use Rattle.std.specs.Prelude.{◌≤◌, ◌*◌, length};
 use discrepancy::discrepancy_coloring;
 use draw::SplitMix64;
 use report::{print_answer, print_bits, print_count, print_weights, put, tab};
-use rules::Cap;
 use sparsification::{sparsify, sparsify_within};
 use std::io;
 use std::io::Write;
@@ -68,7 +67,7 @@ fn thin_within<W: Write>(
         seed,
         1,
         allowance,
-        Cap::Absent,
+        None,
         output,
         &mut numbers[..],
         &mut indices[..],

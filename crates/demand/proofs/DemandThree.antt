@@ -1,6 +1,7 @@
 -- Demand 3: of two accepted jobs on one matrix, weights, seed and edition, of one kind, the second allowing at least as much, the second's
 -- answer is the same or a later stage of the one sequence; its nonzero entries stand among the first's with the same signs; without a cap
 -- its change is within the allowance, and with one the cap is kept.
+use Rattle.std.specs.Prelude.{None, Some}
 use Prim.Native.Nat.{ℕ, ◌≤◌}
 use mathlib.Core.Path.{◌≡◌, ap}
 use mathlib.Core.Bool.{true}
@@ -18,7 +19,6 @@ use Rattle.rules.specs.Rules.{rule_fault}
 use Rattle.answers.specs.Answers.{answer_at, stop_for, Thinned}
 use Rattle.demand.specs.Demand.{allows, keeps, Later}
 use Rattle.answers.specs.declared.Answer.{Answer}
-use Rattle.rules.specs.declared.Cap.TheVariants.{Absent, AtMost}
 use Rattle.rules.specs.declared.Rule.{Rule}
 use Rattle.rules.specs.declared.Rule.TheVariants.{Target, Within}
 use Rattle.stages.proofs.Halting.{stop_is_first}
@@ -38,8 +38,8 @@ module _ (matrix : ℕ → ℕ → Float) (n : ℕ) (start : List Float) (source
   pub kept_there : (rule : Rule) → rule_fault rule ≡ 0
       → keeps rule (answer_at matrix n start source rule (stop_of plus_zero matrix n start source rule)) ≡ true
   kept_there (Target t) f = target_kept plus_zero matrix n start source (falling matrix n start source normal few) t f
-  kept_there (Within a Absent) f = allowance_kept plus_zero matrix n start source (falling matrix n start source normal few) a f (λ j l. (normal.ends j l).ends)
-  kept_there (Within a (AtMost c)) f = cap_kept plus_zero matrix n start source (falling matrix n start source normal few) a c f
+  kept_there (Within a None) f = allowance_kept plus_zero matrix n start source (falling matrix n start source normal few) a f (λ j l. (normal.ends j l).ends)
+  kept_there (Within a (Some c)) f = cap_kept plus_zero matrix n start source (falling matrix n start source normal few) a c f
 
 -- the weights that an accepted job starts from
 module _ {rule : Rule} {matrix : List Float} {m n : ℕ} {w : List Float} {output numbers indices : ℕ} (doubles : Doubles w)

@@ -1,5 +1,6 @@
 -- Where a rule that allows at least as much stops, the other stops too: so it stops at the same or a later stage, whose nonzero entries are among
 -- the earlier's. And the stage at which a rule stops keeps what the rule asks for.
+use Rattle.std.specs.Prelude.{None, Option, Some}
 use Prim.Native.Nat.{ℕ, zero, suc, ◌+◌, ◌-◌, ◌≤◌, ◌<◌}
 use mathlib.Core.Path.{◌≡◌, refl, sym, ◌∙◌}
 use mathlib.Core.Bool.{Bool, true, false, ◌&&◌}
@@ -20,8 +21,6 @@ use Rattle.rules.specs.Rules.{meets, rule_fault, cap_fault}
 use Rattle.stages.specs.Stopping.{entries_at, above, rests, exceeds, stops, stop_of}
 use Rattle.demand.specs.Demand.{as_tight, allows}
 use Rattle.stages.specs.Among.{Among}
-use Rattle.rules.specs.declared.Cap.{Cap}
-use Rattle.rules.specs.declared.Cap.TheVariants.{Absent, AtMost}
 use Rattle.rules.specs.declared.Rule.{Rule}
 use Rattle.rules.specs.declared.Rule.TheVariants.{Target, Within}
 use Rattle.seq.proofs.Choosing.{neither, one_holds, both, never, weaker_or, weaker_and, weaker_not, shown, holds}
@@ -60,12 +59,12 @@ le_through x a b X A B h g =
     (record { held = B; num = right_number a b (shown (le a b) h) }) (shown (le x a) g) (shown (le a b) h))
 
 -- a cap that is as tight is met only where the other is
-pub tight_meets : (c d : Cap) (k : ℕ) → as_tight c d ≡ true → meets d k ≡ true → meets c k ≡ true
-tight_meets Absent d k h g = refl
-tight_meets (AtMost c) Absent k h g = never false h refl
-tight_meets (AtMost c) (AtMost d) k h g = le-leb k c (omega (arith, leb-true d c h, leb-true k d g))
+pub tight_meets : (c d : Option ℕ) (k : ℕ) → as_tight c d ≡ true → meets d k ≡ true → meets c k ≡ true
+tight_meets None d k h g = refl
+tight_meets (Some c) None k h g = never false h refl
+tight_meets (Some c) (Some d) k h g = le-leb k c (omega (arith, leb-true d c h, leb-true k d g))
 
-cap_some : (c : ℕ) → cap_fault (AtMost c) ≡ 0 → 1 ≤ c
+cap_some : (c : ℕ) → cap_fault (Some c) ≡ 0 → 1 ≤ c
 cap_some zero h = absurd (omega arith)
 cap_some (suc c) h = omega arith
 
@@ -161,35 +160,35 @@ module _ (z : Float) (matrix : ℕ → ℕ → Float) (n : ℕ) (start : List Fl
         (λ e. e) (λ e g. never false g refl)
 
     -- the cap
-    pub cap_kept : (a : Float) (c : ℕ) → rule_fault (Within a (AtMost c)) ≡ 0
-        → leb (entries_at z matrix n start source (stop_of z matrix n start source (Within a (AtMost c)))) c ≡ true
+    pub cap_kept : (a : Float) (c : ℕ) → rule_fault (Within a (Some c)) ≡ 0
+        → leb (entries_at z matrix n start source (stop_of z matrix n start source (Within a (Some c)))) c ≡ true
     cap_kept a c f =
-        let k : ℕ = stop_of z matrix n start source (Within a (AtMost c)) in
+        let k : ℕ = stop_of z matrix n start source (Within a (Some c)) in
         let e : ℕ = entries_at z matrix n start source k in
-        one_holds (rests z matrix n start source (Within a (AtMost c)) k) (exceeds z matrix n start source (Within a (AtMost c)) k)
-        (stop_is_first z matrix n start source falls (Within a (AtMost c)) f).there
+        one_holds (rests z matrix n start source (Within a (Some c)) k) (exceeds z matrix n start source (Within a (Some c)) k)
+        (stop_is_first z matrix n start source falls (Within a (Some c)) f).there
         (λ r. one_holds (leb e 1) (ltb 0 k && (above z matrix n start source a k && leb e c)) r
         (λ y. le-leb e c (omega (arith, leb-true e 1 y, some (le plus_zero a) (finite a) f)))
         (λ y g. (both (above z matrix n start source a k) (leb e c) (both (ltb 0 k) (above z matrix n start source a k && leb e c) g).1).1))
         (λ r g. (both (leb e c) (above z matrix n start source a (suc k)) g).0)
       where
-        some : (t s : Bool) → pick t (pick s (cap_fault (AtMost c)) 12) 1 ≡ 0 → 1 ≤ c
+        some : (t s : Bool) → pick t (pick s (cap_fault (Some c)) 12) 1 ≡ 0 → 1 ≤ c
         some true true h = cap_some c h
         some true false h = absurd (omega arith)
         some false s h = absurd (omega arith)
 
     -- without a cap, the allowance
-    pub allowance_kept : (a : Float) → rule_fault (Within a Absent) ≡ 0 → ((j : ℕ) → j < length start → T (finite (at start j)))
-        → le (moved_by matrix n start (stage_of z matrix n start source (stop_of z matrix n start source (Within a Absent)))) a ≡ true
-    allowance_kept a f h = go (stop_of z matrix n start source (Within a Absent)) (stop_is_first z matrix n start source falls (Within a Absent) f)
+    pub allowance_kept : (a : Float) → rule_fault (Within a None) ≡ 0 → ((j : ℕ) → j < length start → T (finite (at start j)))
+        → le (moved_by matrix n start (stage_of z matrix n start source (stop_of z matrix n start source (Within a None)))) a ≡ true
+    allowance_kept a f h = go (stop_of z matrix n start source (Within a None)) (stop_is_first z matrix n start source falls (Within a None) f)
       where
         nonnegative : (t : Bool) (k : ℕ) → pick t k 1 ≡ 0 → t ≡ true
         nonnegative true k h = refl
         nonnegative false k h = absurd (omega arith)
 
-        go : (k : ℕ) → FirstStop z matrix n start source (Within a Absent) k → le (moved_by matrix n start (stage_of z matrix n start source k)) a ≡ true
-        go zero p = unfold stage_of in rw (no_change matrix n start h) (nonnegative (le plus_zero a) (pick (finite a) (cap_fault Absent) 12) f)
+        go : (k : ℕ) → FirstStop z matrix n start source (Within a None) k → le (moved_by matrix n start (stage_of z matrix n start source k)) a ≡ true
+        go zero p = unfold stage_of in rw (no_change matrix n start h) (nonnegative (le plus_zero a) (pick (finite a) (cap_fault None) 12) f)
         go (suc k) p =
-            let e = neither (rests z matrix n start source (Within a Absent) k) (exceeds z matrix n start source (Within a Absent) k)
+            let e = neither (rests z matrix n start source (Within a None) k) (exceeds z matrix n start source (Within a None) k)
             (p.before k (omega arith)) in
             not-false (le (moved_by matrix n start (stage_of z matrix n start source (suc k))) a) e.1

@@ -1,6 +1,6 @@
 -- Two jobs on one matrix, weights, seed and edition, of one kind, the second allowing at least as much: its answer is the same or a
 -- later stage of the one sequence, its nonzero entries stand among the first's with the same signs, and each keeps what its rule asks for.
-use Rattle.std.specs.Prelude.{ℕ, ◌≤◌, ◌≡◌, Bool, true, false, ◌&&◌, List, leb, Float}
+use Rattle.std.specs.Prelude.{ℕ, ◌≤◌, ◌≡◌, Bool, true, false, ◌&&◌, List, leb, Float, None, Option, Some}
 use Rattle.std.specs.Float.Ieee.{le}
 use Rattle.seq.specs.Sums.{plus_zero}
 use Rattle.limits.specs.Matrix.{columns_of}
@@ -8,8 +8,6 @@ use Rattle.weights.specs.Weights.{normalized}
 use Rattle.stages.specs.Stages.{stage_of}
 use Rattle.stages.specs.Among.{Among}
 use Rattle.answers.specs.declared.Answer.{Answer}
-use Rattle.rules.specs.declared.Cap.{Cap}
-use Rattle.rules.specs.declared.Cap.TheVariants.{Absent, AtMost}
 use Rattle.rules.specs.declared.Rule.{Rule}
 use Rattle.rules.specs.declared.Rule.TheVariants.{Target, Within}
 use Rattle.draw.specs.declared.SplitMix64.{SplitMix64}
@@ -17,10 +15,10 @@ use Rattle.draw.specs.declared.SplitMix64.{SplitMix64}
 -- The second cap is at least as hard to meet: any cap beside an absent one, and a cap that is no larger beside a cap.
 -- An absent cap beside a cap is not: with a matrix that moves a margin, allowance 0 and cap 1 thin to one entry, and allowance 0 alone
 -- stays at stage 0.
-abbrev pub as_tight : Cap → Cap → Bool
-as_tight Absent second = true
-as_tight (AtMost c) Absent = false
-as_tight (AtMost c) (AtMost d) = leb d c
+abbrev pub as_tight : Option ℕ → Option ℕ → Bool
+as_tight None second = true
+as_tight (Some c) None = false
+as_tight (Some c) (Some d) = leb d c
 
 -- The second rule is of the first's kind and allows at least as much thinning: a target that is no larger, or an allowance that is no
 -- smaller
@@ -36,8 +34,8 @@ allows (Within a c) (Within b d) = le a b && as_tight c d
 -- there is one
 abbrev pub keeps : Rule → Answer → Bool
 keeps (Target t) r = leb r.nonzeros t
-keeps (Within a Absent) r = le r.change a
-keeps (Within a (AtMost c)) r = leb r.nonzeros c
+keeps (Within a None) r = le r.change a
+keeps (Within a (Some c)) r = leb r.nonzeros c
 
 -- two answers r and s with their outputs, the second's rule given
 pub record Later (matrix : List Float) (n : ℕ) (w : List Float) (source : SplitMix64) (rule : Rule) (r s : Answer)

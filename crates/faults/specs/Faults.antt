@@ -1,6 +1,6 @@
 -- What a job is refused for before any work is done: the first number that applies, in the order 1, 12, 2, 13, 3, .., 9. And the same of a
 -- call for several jobs on one matrix, its items: 3 to 7 of the call as a whole, and of each item what is left.
-use Rattle.std.specs.Prelude.{ℕ, ◌*◌, Bool, not, ◌||◌, List, eqb, ltb, length, Float}
+use Rattle.std.specs.Prelude.{ℕ, ◌*◌, Bool, not, ◌||◌, List, eqb, ltb, length, Float, None, Some}
 use Rattle.seq.specs.Choice.{pick, or_else}
 use Rattle.seq.specs.Sums.{plus_zero}
 use Rattle.limits.specs.Limits.{too_large, scratch_short, bounded, all_finite}
@@ -8,7 +8,6 @@ use Rattle.limits.specs.Votes.{bytes_of, spare_fault}
 use Rattle.ieee.specs.Constants.{one}
 use Rattle.weights.specs.Weights.{l1_of, sound}
 use Rattle.rules.specs.Rules.{rule_fault}
-use Rattle.rules.specs.declared.Cap.TheVariants.{Absent, AtMost}
 use Rattle.rules.specs.declared.Rule.{Rule}
 use Rattle.rules.specs.declared.Rule.TheVariants.{Target, Within}
 
@@ -17,8 +16,8 @@ use Rattle.rules.specs.declared.Rule.TheVariants.{Target, Within}
 abbrev pub rule_named : ℕ → Float → ℕ → Rule
 rule_named number allowance limit =
     pick (eqb number 0) (Target limit)
-    (pick (eqb number 1) (Within allowance Absent)
-    (pick (eqb number 2) (Within allowance (AtMost limit))
+    (pick (eqb number 1) (Within allowance None)
+    (pick (eqb number 2) (Within allowance (Some limit))
     (Target 0)))
 
 -- 13 an edition that is neither 1 nor 2

@@ -8,7 +8,7 @@ ghost use Rattle.faults.specs.Faults.{item_fault};
 
 use ieee::is_finite;
 use limits::{all_bounded, all_finite, scratch_short, too_large};
-use rules::{Cap, Rule, rule_fault};
+use rules::{Rule, rule_fault};
 use weights::l1;
 
 // The rule that a host names by a number: 0 for a target, 1 for an allowance, 2 for an allowance with a cap. Another number names neither
@@ -22,13 +22,13 @@ pub fn named_rule(number: u32, allowance: f64, limit: usize) -> Rule
     if number == 1 {
         return Rule::Within {
             allowance,
-            cap: Cap::Absent,
+            cap: None,
         };
     }
     if number == 2 {
         return Rule::Within {
             allowance,
-            cap: Cap::AtMost(limit),
+            cap: Some(limit),
         };
     }
     Rule::Target(0)

@@ -1,5 +1,6 @@
 -- What is of the form is taken: the text of a sheet that fits has no wrong line, and what is read from it is what the sheet says. The text is parted at
 -- the fields, each is read where it stands.
+use Rattle.std.specs.Prelude.{None, Option, Some}
 use borrow.Author.Tests.{eqb-true, eqb-false, leb-true, ltb-true, le-leb}
 use Prim.Native.Nat.{ℕ, zero, suc, ◌+◌, ◌*◌, ◌/◌, ◌%◌, ◌^◌, ◌≤◌, ◌<◌}
 use mathlib.Core.Path.{◌≡◌, refl, sym, ap, ◌∙◌, subst}
@@ -24,8 +25,6 @@ use Rattle.seq.proofs.Choosing.{both}
 use Rattle.seq.proofs.Every.{every_holds}
 use Rattle.fields.proofs.Widths.{length-bits}
 use Rattle.fields.proofs.Words.{spelled_at}
-use Rattle.rules.specs.declared.Cap.{Cap}
-use Rattle.rules.specs.declared.Cap.TheVariants.{Absent, AtMost}
 use Rattle.rules.specs.declared.Rule.TheVariants.{Target, Within}
 use Rattle.head.specs.Words.{thin_word, target_word, within_word, second_edition, dash}
 use Rattle.head.specs.FirstLine.{cap_at, target_at, within_at, rule_at, sizes_at, edition_at, head_of}
@@ -39,10 +38,10 @@ use Rattle.form.proofs.Segments.{Seg, seg_first, seg_rest, seg_after, seg_byte, 
 use Rattle.form.proofs.Lines.{right-back}
 
 -- the cap that stands from i to p, where no digit follows
-cap_read : {t : List ℕ} {i p : ℕ} (cap : Cap) → cap_fits cap ≡ true → Seg t i p (cap_text cap) → is_digit (byte_at t p) ≡ false
+cap_read : {t : List ℕ} {i p : ℕ} (cap : Option ℕ) → cap_fits cap ≡ true → Seg t i p (cap_text cap) → is_digit (byte_at t p) ≡ false
     → cap_at t i ≡ record { ok = true; cap = cap; next = p }
-cap_read {t} {i} {p} Absent h a e = rw a.ends (sym (cap_dash t i dash (sym (seg_byte a)) refl))
-cap_read {t} {i} {p} (AtMost c) h a e =
+cap_read {t} {i} {p} None h a e = rw a.ends (sym (cap_dash t i dash (sym (seg_byte a)) refl))
+cap_read {t} {i} {p} (Some c) h a e =
     let f : count_at t i ≡ record { ok = true; value = c; next = p } = seg_count c (leb-true c 4294967295 h) a e in
     let d : byte_at t i ≡ 45 → ⊥ = λ q. false≢true (ap is_digit (sym q) ∙ seg_digit c a) in
     sym (cap_count t i (byte_at t i) (record { ok = true; value = c; next = p }) refl d (sym f))

@@ -1,5 +1,6 @@
 -- What is taken is of the form: a text of which no line is wrong is the text of the sheet that it says. Field by field each stands where it is read, and
 -- what stands in a row is joined.
+use Rattle.std.specs.Prelude.{None, Some}
 use borrow.Author.Tests.{eqb-true, le-leb, lt-ltb}
 use Prim.Native.Nat.{ℕ, zero, suc, ◌+◌, ◌*◌, ◌^◌, ◌<◌, ◌≤◌}
 use mathlib.Core.Path.{◌≡◌, refl, ap}
@@ -16,7 +17,6 @@ use Rattle.fields.specs.Texts.{bits_text, count_text}
 use Rattle.seq.proofs.Choosing.{both}
 use Rattle.seq.proofs.Every.{every_at}
 use Rattle.fields.proofs.BitsBack.{bits_below}
-use Rattle.rules.specs.declared.Cap.TheVariants.{Absent, AtMost}
 use Rattle.head.specs.Words.{thin_word, target_word, within_word, second_edition, dash}
 use Rattle.head.specs.FirstLine.{cap_at, target_at, within_at, no_rule, rule_at, sizes_at, edition_at, head_of}
 use Rattle.head.specs.declared.CapField.{CapField}
@@ -49,10 +49,10 @@ unfolding cap_at
 cap_said t i h = go (eqb (byte_at t i) dash) refl h
   where
     count : CapField
-    count = record { ok = (count_at t i).ok; cap = AtMost (count_at t i).value; next = (count_at t i).next }
+    count = record { ok = (count_at t i).ok; cap = Some (count_at t i).value; next = (count_at t i).next }
 
-    go : (s : Bool) → eqb (byte_at t i) dash ≡ s → (pick s (record { ok = true; cap = Absent; next = suc i }) count).ok ≡ true
-        → CapSaid t i (pick s (record { ok = true; cap = Absent; next = suc i }) count)
+    go : (s : Bool) → eqb (byte_at t i) dash ≡ s → (pick s (record { ok = true; cap = None; next = suc i }) count).ok ≡ true
+        → CapSaid t i (pick s (record { ok = true; cap = None; next = suc i }) count)
     go true e g = record { stands = tested t i dash e (omega arith); fits = refl }
     go false e g = record { stands = count_seg t i g; fits = le-leb (count_at t i).value 4294967295 (count_most t i g) }
 

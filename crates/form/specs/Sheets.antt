@@ -1,5 +1,5 @@
 -- The form of a sheet as a text: what a sheet says, written out line by line, and the sheet that a text says.
-use Rattle.std.specs.Prelude.{ℕ, zero, suc, ◌+◌, ◌*◌, ◌/◌, ◌%◌, ◌^◌, ◌<◌, ◌≤◌, ◌≡◌, Bool, true, ◌&&◌, eqb, leb, ltb, List, [], ◌∷◌, ◌++◌}
+use Rattle.std.specs.Prelude.{ℕ, zero, suc, ◌+◌, ◌*◌, ◌/◌, ◌%◌, ◌^◌, ◌<◌, ◌≤◌, ◌≡◌, Bool, true, ◌&&◌, eqb, leb, ltb, List, [], ◌∷◌, ◌++◌, None, Option, Some}
 use Rattle.std.specs.Float.{binary64}
 use Rattle.std.specs.Float.Ieee.{of_bits}
 use Rattle.seq.specs.Choice.{pick}
@@ -7,8 +7,6 @@ use Rattle.seq.specs.Lists.{tabulate}
 use Rattle.fields.specs.Bytes.{tab, newline, spelled}
 use Rattle.fields.specs.Fields.{bits_at, count_at}
 use Rattle.fields.specs.Texts.{bits_text, count_text}
-use Rattle.rules.specs.declared.Cap.{Cap}
-use Rattle.rules.specs.declared.Cap.TheVariants.{Absent, AtMost}
 use Rattle.rules.specs.declared.Rule.{Rule}
 use Rattle.rules.specs.declared.Rule.TheVariants.{Target, Within}
 use Rattle.head.specs.Words.{thin_word, target_word, within_word, second_edition, dash}
@@ -19,7 +17,7 @@ use Rattle.form.specs.Reading.{weight_place, weight_bits, matrix_bits, weights_o
 -- a rule as a sheet says it: the allowance by its bits
 pub data Wish : Type 0 where
   target : ℕ → Wish
-  within : ℕ → Cap → Wish
+  within : ℕ → Option ℕ → Wish
 
 -- what a sheet says: the bits of the weight of each column, and of each of its entries
 pub record Sheet : Type 0 where
@@ -31,9 +29,9 @@ pub record Sheet : Type 0 where
   pub weight : ℕ → ℕ
   pub entry : ℕ → ℕ → ℕ
 
-abbrev pub cap_text : Cap → List ℕ
-cap_text Absent = dash ∷ []
-cap_text (AtMost c) = count_text c
+abbrev pub cap_text : Option ℕ → List ℕ
+cap_text None = dash ∷ []
+cap_text (Some c) = count_text c
 
 abbrev pub wish_text : Wish → List ℕ
 wish_text (target t) = target_word ++ count_text t
@@ -70,9 +68,9 @@ abbrev pub sheet_text : Sheet → List ℕ
 sheet_text s = head_text s ++ columns_text s.n s.weight s.entry s.m
 
 -- the counts of a rule are at most 4294967295, and the allowance's bits are 64
-abbrev pub cap_fits : Cap → Bool
-cap_fits Absent = true
-cap_fits (AtMost c) = leb c 4294967295
+abbrev pub cap_fits : Option ℕ → Bool
+cap_fits None = true
+cap_fits (Some c) = leb c 4294967295
 
 abbrev pub wish_fits : Wish → Bool
 wish_fits (target t) = leb t 4294967295

@@ -1,4 +1,5 @@
 -- What is read at a place of the first line, from what its parts are.
+use Rattle.std.specs.Prelude.{None, Some}
 use borrow.Author.Tests.{eq-eqb, ne_eqb}
 use Prim.Native.Nat.{ℕ, suc, ◌+◌, ◌≤◌}
 use mathlib.Core.Path.{◌≡◌, sym, ap, ◌∙◌}
@@ -12,7 +13,6 @@ use Rattle.fields.specs.Bytes.{byte_at, spelled}
 use Rattle.fields.specs.Fields.{bits_at, count_at}
 use Rattle.fields.proofs.Widths.{count_next}
 use Rattle.fields.specs.declared.Field.{Field}
-use Rattle.rules.specs.declared.Cap.TheVariants.{Absent, AtMost}
 use Rattle.rules.specs.declared.Rule.TheVariants.{Within}
 use Rattle.head.specs.Words.{thin_word, target_word, within_word, second_edition, dash}
 use Rattle.head.specs.FirstLine.{cap_at, target_at, within_at, no_rule, rule_at, sizes_at, edition_at, head_of}
@@ -22,14 +22,14 @@ use Rattle.head.specs.declared.RuleField.{RuleField}
 use Rattle.head.specs.declared.Sizes.{Sizes}
 use Rattle.head.specs.declared.EditionField.{EditionField}
 
-pub cap_dash : (t : List ℕ) (i b : ℕ) → b ≡ byte_at t i → b ≡ 45 → record { ok = true; cap = Absent; next = i + 1 } ≡ cap_at t i
+pub cap_dash : (t : List ℕ) (i b : ℕ) → b ≡ byte_at t i → b ≡ 45 → record { ok = true; cap = None; next = i + 1 } ≡ cap_at t i
 unfolding cap_at
 cap_dash t i b e h =
     let p : eqb (byte_at t i) dash ≡ true = eq-eqb (byte_at t i) 45 (sym e ∙ h) in
     rw (add-one i, p)
 
 pub cap_count : (t : List ℕ) (i b : ℕ) (f : Field) → b ≡ byte_at t i → (b ≡ 45 → ⊥) → f ≡ count_at t i
-    → record { ok = f.ok; cap = AtMost f.value; next = f.next } ≡ cap_at t i
+    → record { ok = f.ok; cap = Some f.value; next = f.next } ≡ cap_at t i
 unfolding cap_at
 cap_count t i b f e h g =
     let p : eqb (byte_at t i) dash ≡ false = ne_eqb (byte_at t i) 45 (λ q. h (e ∙ q)) in

@@ -1,4 +1,5 @@
 -- What is read at a place of the first line is read there in a longer text too, where the text is long enough.
+use Rattle.std.specs.Prelude.{None, Some}
 use Prim.Native.Nat.{ℕ, suc, ◌+◌, ◌≤◌}
 use mathlib.Core.Path.{◌≡◌, refl, sym, ap, ◌∙◌}
 use mathlib.Core.Bool.{Bool, true}
@@ -13,7 +14,6 @@ use Rattle.fields.specs.Fields.{bits_at, count_at}
 use Rattle.fields.specs.declared.Field.{Field}
 use Rattle.fields.proofs.Widths.{count_next}
 use Rattle.fields.proofs.Longer.{byte_longer, spelled_longer, bits-at_longer, count_longer_12}
-use Rattle.rules.specs.declared.Cap.TheVariants.{Absent, AtMost}
 use Rattle.rules.specs.declared.Rule.TheVariants.{Target}
 use Rattle.head.specs.Words.{thin_word, target_word, within_word, second_edition, dash}
 use Rattle.head.specs.FirstLine.{cap_at, target_at, within_at, no_rule, rule_at, sizes_at, edition_at, head_of}
@@ -24,7 +24,7 @@ use Rattle.head.proofs.Fields.{sizes_is, within_is, head_is}
 
 -- what a dash or a count is read as
 cap_of : ℕ → ℕ → Field → CapField
-cap_of i b f = pick (eqb b dash) (record { ok = true; cap = Absent; next = suc i }) (record { ok = f.ok; cap = AtMost f.value; next = f.next })
+cap_of i b f = pick (eqb b dash) (record { ok = true; cap = None; next = suc i }) (record { ok = f.ok; cap = Some f.value; next = f.next })
 
 cap_longer : (t more : List ℕ) (i : ℕ) → i + 12 ≤ length t → cap_at (t ++ more) i ≡ cap_at t i
 unfolding cap_at cap_of

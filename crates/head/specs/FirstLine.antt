@@ -1,11 +1,10 @@
 -- The first line of a sheet, by places: where each field stands follows from where the one before it ends.
-use Rattle.std.specs.Prelude.{ℕ, suc, ◌+◌, true, false, ◌&&◌, List, eqb, leb}
+use Rattle.std.specs.Prelude.{ℕ, suc, ◌+◌, true, false, ◌&&◌, List, eqb, leb, None, Some}
 use Rattle.std.specs.Float.{binary64}
 use Rattle.std.specs.Float.Ieee.{of_bits}
 use Rattle.seq.specs.Choice.{pick}
 use Rattle.fields.specs.Bytes.{tab, newline, byte_at, spelled}
 use Rattle.fields.specs.Fields.{is_bits, bits_at, count_at}
-use Rattle.rules.specs.declared.Cap.TheVariants.{Absent, AtMost}
 use Rattle.rules.specs.declared.Rule.TheVariants.{Target, Within}
 use Rattle.head.specs.Words.{thin_word, target_word, within_word, second_edition, dash}
 use Rattle.head.specs.declared.CapField.{CapField}
@@ -18,8 +17,8 @@ use Rattle.head.specs.declared.Head.{Head}
 unfoldable pub cap_at : List ℕ → ℕ → CapField
 cap_at text i =
     pick (eqb (byte_at text i) dash)
-    (record { ok = true; cap = Absent; next = suc i })
-    (record { ok = (count_at text i).ok; cap = AtMost (count_at text i).value; next = (count_at text i).next })
+    (record { ok = true; cap = None; next = suc i })
+    (record { ok = (count_at text i).ok; cap = Some (count_at text i).value; next = (count_at text i).next })
 
 -- no rule
 abbrev pub no_rule : RuleField

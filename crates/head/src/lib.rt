@@ -8,13 +8,13 @@ ghost use Rattle.std.specs.Float.Ieee.{of_bits};
 ghost use Rattle.head.specs.FirstLine.{cap_at, rule_at, target_at, within_at, sizes_at, edition_at, head_of};
 
 use fields::{bits_at, byte_at, count_at, spells};
-use rules::{Cap, Rule};
+use rules::Rule;
 
 // A cap at a place: whether it is of its form, the cap, and where the text goes on.
 #[derive(Drop)]
 pub struct CapField {
     pub ok: bool,
-    pub cap: Cap,
+    pub cap: Option<usize>,
     pub next: usize,
 }
 
@@ -76,14 +76,14 @@ fn cap_at(text: &[u8], at: usize) -> CapField
     if byte_at(text, at) == b'-' {
         return CapField {
             ok: true,
-            cap: Cap::Absent,
+            cap: None,
             next: at + 1,
         };
     }
     let count = count_at(text, at);
     CapField {
         ok: count.ok,
-        cap: Cap::AtMost(count.value as usize),
+        cap: Some(count.value as usize),
         next: count.next,
     }
 }

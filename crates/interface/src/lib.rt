@@ -7,7 +7,6 @@ ghost use Rattle.interface.specs.Caps.{cap_of};
 ghost use Rattle.interface.specs.Draws.{UniformDrawn, GaussianDrawn};
 
 use draw::SplitMix64;
-use rules::Cap;
 
 // The version of the library: that of the file VERSION.
 pub fn version() -> u64
@@ -37,12 +36,12 @@ pub fn next_gaussian(state: &mut u64, edition: u32) -> f64
 }
 
 // The cap that a host names: none where `capped` is 0.
-pub fn cap_of(capped: u32, cap: usize) -> Cap
+pub fn cap_of(capped: u32, cap: usize) -> Option<usize>
     ensures { result ≡ cap_of capped cap }
 {
     if capped == 0 {
-        Cap::Absent
+        None
     } else {
-        Cap::AtMost(cap)
+        Some(cap)
     }
 }

@@ -1,4 +1,5 @@
 -- What is put piece by piece is the first line; and how long the pieces can be.
+use Rattle.std.specs.Prelude.{None, Option, Some}
 use Prim.Native.Nat.{ℕ, ◌+◌, ◌≤◌}
 use mathlib.Core.Path.{◌≡◌}
 use mathlib.Core.Bool.{Bool, true, false}
@@ -12,15 +13,13 @@ use Rattle.fields.specs.Texts.{bits_text, count_text, tabbed}
 use Rattle.fields.specs.Steps.{WroteOn}
 use Rattle.fields.proofs.Widths.{length-bits, length-count, width_most}
 use Rattle.fields.proofs.Puts.{on_two, length-tabbed}
-use Rattle.rules.specs.declared.Cap.{Cap}
-use Rattle.rules.specs.declared.Cap.TheVariants.{Absent, AtMost}
 use Rattle.head.specs.Words.{thin_word, within_word, second_edition}
 use Rattle.form.specs.Sheets.{Wish, target, within, cap_text, wish_text, edition_text, first_line}
 
 -- how long a cap, a rule and the end of the first line can be
-pub length_cap : (cap : Cap) → length (cap_text cap) ≤ 20
-length_cap Absent = omega arith
-length_cap (AtMost c) = omega (arith, length-count c, width_most c)
+pub length_cap : (cap : Option ℕ) → length (cap_text cap) ≤ 20
+length_cap None = omega arith
+length_cap (Some c) = omega (arith, length-count c, width_most c)
 
 pub length_wish : (w : Wish) → length (wish_text w) ≤ 44
 length_wish (target t) = omega (arith, length-count t, width_most t)
@@ -45,7 +44,7 @@ sizes_wrote m n h g p q s =
     on_two p (on_two q s (omega (arith, p.ends, length-tabbed m, width_most m))) (omega arith)
 
 -- an allowance and a cap
-pub within_wrote : {out o o' o'' o''' : List ℕ} {i a b d r : ℕ} (x : ℕ) (cap : Cap) → i + 44 ≤ length out → length o ≡ length out
+pub within_wrote : {out o o' o'' o''' : List ℕ} {i a b d r : ℕ} (x : ℕ) (cap : Option ℕ) → i + 44 ≤ length out → length o ≡ length out
     → length o' ≡ length out → WroteOn within_word i out a o → WroteOn (bits_text x) a o b o' → WroteOn (tab ∷ []) b o' d o''
     → WroteOn (cap_text cap) d o'' r o''' → WroteOn (wish_text (within x cap)) i out r o'''
 within_wrote x cap h g k p q s t =

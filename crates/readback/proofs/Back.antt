@@ -1,4 +1,5 @@
 -- What is written is read back with the same bits, and a sheet that the reader takes is written again exactly as it was.
+use Rattle.std.specs.Prelude.{None, Some}
 use borrow.Author.Tests.{eqb-true, eq-eqb, le-leb, lt-ltb, ltb-false}
 use Prim.Native.Nat.{ℕ, ◌+◌, ◌*◌, ◌/◌, ◌%◌, ◌^◌, ◌≤◌, ◌<◌}
 use mathlib.Core.Path.{◌≡◌, refl, sym, ap, ◌∙◌, subst}
@@ -11,7 +12,6 @@ use lib.ListN.{length, get_or, take, drop}
 use lib.Seq.{take_at}
 use Rattle.seq.specs.Choice.{pick}
 use Rattle.seq.proofs.Filling.{get_or-tab}
-use Rattle.rules.specs.declared.Cap.TheVariants.{Absent, AtMost}
 use Rattle.fields.specs.Fields.{bits_at}
 use Rattle.head.specs.FirstLine.{head_of}
 use Rattle.head.specs.declared.Head.{Head}
@@ -40,7 +40,7 @@ wish_fits_lem : (rule allowance limit : ℕ) → allowance < 2 ^ 64 → (not (eq
 wish_fits_lem rule allowance limit h g = go (eqb rule 0) (eqb rule 1) refl refl g
   where
     go : (s u : Bool) → eqb rule 0 ≡ s → eqb rule 1 ≡ u → (not u && ltb 4294967295 limit) ≡ false
-        → wish_fits (pick s (target limit) (within allowance (pick u Absent (AtMost limit)))) ≡ true
+        → wish_fits (pick s (target limit) (within allowance (pick u None (Some limit)))) ≡ true
     go true true e f l = absurd (omega (arith, eqb-true rule 0 e, eqb-true rule 1 f))
     go true false e f l = le-leb limit 4294967295 (ltb-false 4294967295 limit l)
     go false true e f l = rw (lt-ltb allowance (2 ^ 64) h)
@@ -103,8 +103,8 @@ module _ (matrix : List ℕ) (m n : ℕ) (weights : List ℕ) (seed edition rule
 -- the wish of the numbers that a rule is read as
 same_wish : (w : Wish) → wish_for (rule_number (rule_of w)) (allowance_of w) (limit_of (rule_of w)) ≡ w
 same_wish (target t) = refl
-same_wish (within a Absent) = refl
-same_wish (within a (AtMost c)) = refl
+same_wish (within a None) = refl
+same_wish (within a (Some c)) = refl
 
 -- the sheet of what is read from a text
 abbrev pub read_sheet : List ℕ → Sheet

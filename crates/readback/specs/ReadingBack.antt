@@ -1,8 +1,6 @@
 -- What is read from a sheet as bits: seven numbers of the first line, the weights and the matrix.
-use Rattle.std.specs.Prelude.{ℕ, ◌*◌, ◌≡◌, Bool, ◌||◌, List, [], ◌∷◌, ◌++◌, eqb, ltb, length, drop}
+use Rattle.std.specs.Prelude.{ℕ, ◌*◌, ◌≡◌, Bool, ◌||◌, List, [], ◌∷◌, ◌++◌, eqb, ltb, length, drop, None, Option, Some}
 use Rattle.seq.specs.Choice.{pick}
-use Rattle.rules.specs.declared.Cap.{Cap}
-use Rattle.rules.specs.declared.Cap.TheVariants.{Absent, AtMost}
 use Rattle.rules.specs.declared.Rule.{Rule}
 use Rattle.rules.specs.declared.Rule.TheVariants.{Target, Within}
 use Rattle.head.specs.FirstLine.{head_of}
@@ -11,9 +9,9 @@ use Rattle.form.specs.Form.{wrong_line}
 use Rattle.form.specs.Reading.{weight_bits, matrix_bits}
 
 -- the number of a rule with this cap
-abbrev pub cap_number : Cap → ℕ
-cap_number Absent = 1
-cap_number (AtMost c) = 2
+abbrev pub cap_number : Option ℕ → ℕ
+cap_number None = 1
+cap_number (Some c) = 2
 
 -- the number of a rule: 0 a target, 1 an allowance without a cap, 2 an allowance with one
 abbrev pub rule_number : Rule → ℕ
@@ -21,9 +19,9 @@ rule_number (Target t) = 0
 rule_number (Within allowance cap) = cap_number cap
 
 -- what a cap says, and 0 where it is absent
-abbrev pub cap_limit : Cap → ℕ
-cap_limit Absent = 0
-cap_limit (AtMost c) = c
+abbrev pub cap_limit : Option ℕ → ℕ
+cap_limit None = 0
+cap_limit (Some c) = c
 
 -- the target or the cap, and 0 where there is none
 abbrev pub limit_of : Rule → ℕ

@@ -10,15 +10,15 @@ ghost use Rattle.readback.specs.ReadingBack.{cap_number, rule_number, cap_limit,
 use contents::{entry_bits, weight_bits};
 use head::{Head, head_of};
 use lines::wrong_line;
-use rules::{Cap, Rule};
+use rules::Rule;
 
 // The number of a rule with this cap.
-fn cap_number(cap: Cap) -> u64
+fn cap_number(cap: Option<usize>) -> u64
     ensures { result ≡ cap_number cap }
 {
     match cap {
-        Cap::Absent => 1,
-        Cap::AtMost(c) => 2,
+        None => 1,
+        Some(c) => 2,
     }
 }
 
@@ -33,12 +33,12 @@ fn rule_number(rule: Rule) -> u64
 }
 
 // What a cap says, and 0 where it is absent.
-fn cap_limit(cap: Cap) -> u64
+fn cap_limit(cap: Option<usize>) -> u64
     ensures { result ≡ cap_limit cap }
 {
     match cap {
-        Cap::Absent => 0,
-        Cap::AtMost(c) => c as u64,
+        None => 0,
+        Some(c) => c as u64,
     }
 }
 

@@ -19,21 +19,21 @@ pub enum Cap {
 #[derive(Clone, Copy)]
 pub enum Rule {
     Target(usize),
-    Within { allowance: f64, cap: Cap },
+    Within { allowance: f64, cap: Option<usize> },
 }
 
 // 2 where the cap is 0.
-fn cap_fault(cap: Cap) -> u64
+fn cap_fault(cap: Option<usize>) -> u64
     ensures { result ≡ cap_fault cap }
 {
     match cap {
-        Cap::Absent => 0,
-        Cap::AtMost(c) => { if c == 0 { 2 } else { 0 } }
+        None => 0,
+        Some(c) => { if c == 0 { 2 } else { 0 } }
     }
 }
 
 // 1, 12 or 2, of an allowance and a cap.
-fn within_fault(allowance: f64, cap: Cap) -> u64
+fn within_fault(allowance: f64, cap: Option<usize>) -> u64
     ensures { result ≡ rule_fault (Within allowance cap) }
 {
     if !(allowance >= 0.0) {
@@ -56,11 +56,11 @@ pub fn rule_fault(rule: Rule) -> u64
 }
 
 // Whether so many entries meet the cap.
-pub fn meets_cap(cap: Cap, k: usize) -> bool
+pub fn meets_cap(cap: Option<usize>, k: usize) -> bool
     ensures { result ≡ meets cap k }
 {
     match cap {
-        Cap::Absent => true,
-        Cap::AtMost(c) => k <= c,
+        None => true,
+        Some(c) => k <= c,
     }
 }

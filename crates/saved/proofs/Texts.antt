@@ -1,4 +1,5 @@
 -- The lines of the text of a sheet: each is whole, for no field has a newline; and they are the first line and the columns' lines.
+use Rattle.std.specs.Prelude.{None, Option, Some}
 use Prim.Native.Nat.{ℕ, zero, suc, ◌+◌, ◌/◌, ◌%◌, ◌≤◌}
 use borrow.Author.Tests.{ne_eqb}
 use mathlib.Core.Path.{◌≡◌, refl, ap, ◌∙◌}
@@ -11,8 +12,6 @@ use Rattle.seq.specs.Lists.{tabulate}
 use Rattle.fields.specs.Bytes.{tab, newline}
 use Rattle.fields.specs.Digits.{digit_for, digits_of}
 use Rattle.fields.specs.Texts.{bits_text, count_text}
-use Rattle.rules.specs.declared.Cap.{Cap}
-use Rattle.rules.specs.declared.Cap.TheVariants.{Absent, AtMost}
 use Rattle.head.specs.Words.{thin_word, target_word, within_word, second_edition}
 use Rattle.form.specs.Form.{col_word}
 use Rattle.form.specs.Sheets.{Wish, target, within, Sheet, cap_text, wish_text, edition_text, head_text, entries_text, column_text, columns_text, sheet_text}
@@ -43,10 +42,10 @@ digits_plain base x (suc k) =
     (plain-after (digit_for (x % base)) [] (λ e. absurd (omega (arith, digit_above (x % base)))) refl)
 
 -- the rule
-cap_plain : (cap : Cap) → newlines (cap_text cap) ≡ 0
+cap_plain : (cap : Option ℕ) → newlines (cap_text cap) ≡ 0
 unfolding newlines
-cap_plain Absent = refl
-cap_plain (AtMost c) = digits_plain 10 c _
+cap_plain None = refl
+cap_plain (Some c) = digits_plain 10 c _
 
 wish_plain : (w : Wish) → newlines (wish_text w) ≡ 0
 unfolding newlines

@@ -19,7 +19,7 @@ ghost use Rattle.stages.specs.Paths.{Followed};
 use answers::{Answer, answer_for, refused};
 use draw::SplitMix64;
 use faults::job_fault;
-use rules::{Cap, Rule};
+use rules::Rule;
 use seq::{copy, fill};
 use stages::Path;
 use toallowance::to_allowance;
@@ -221,7 +221,7 @@ pub fn sparsify_within(
     seed: u64,
     edition: u32,
     allowance: f64,
-    cap: Cap,
+    cap: Option<usize>,
     output: &mut [f64],
     numbers: &mut [f64],
     indices: &mut [u32],

@@ -1,4 +1,5 @@
 -- A job that follows the stages: where it stands on them, what one more pass makes of that, and what it has reached at each way out.
+use Rattle.std.specs.Prelude.{Option}
 use Prim.Native.Nat.{ℕ, zero, suc, ◌+◌, ◌*◌, ◌^◌, ◌-◌, ◌≤◌, ◌<◌}
 use mathlib.Core.Path.{◌≡◌, refl, sym, ap, ◌∙◌}
 use mathlib.Core.Bool.{Bool, true, false, not, ◌&&◌, ◌||◌, and_comm}
@@ -30,7 +31,6 @@ use Rattle.stages.specs.Paths.{Noted, Followed}
 use Rattle.stages.specs.declared.Path.{Path}
 use Rattle.tried.specs.Trial.{TriedOnce, above_after, was_taken, goes_onward}
 use Rattle.colored.specs.declared.Counted.{Counted}
-use Rattle.rules.specs.declared.Cap.{Cap}
 use Rattle.rules.specs.declared.Rule.{Rule}
 use Rattle.rules.specs.declared.Rule.TheVariants.{Target, Within}
 use Rattle.tried.specs.declared.Tried.{Tried}
@@ -127,10 +127,10 @@ module _ (matrix : ℕ → ℕ → Float) (n : ℕ) (start : List Float) (source
     on_tallied = record { directions = ap (λ (h : Halved). h.directions) on.there; sweeps = ap (λ (h : Halved). h.sweeps) on.there }
 
   -- a stage after the first that measures above the allowance and meets the cap ends the job
-  abbrev pub closes : Float → Cap → ℕ → Bool
+  abbrev pub closes : Float → Option ℕ → ℕ → Bool
   closes a c i = ltb 0 i && (above plus_zero matrix n start source a i && meets c (entries_at plus_zero matrix n start source i))
 
-  pub opens : (a : Float) (c : Cap) → closes a c 0 ≡ false
+  pub opens : (a : Float) (c : Option ℕ) → closes a c 0 ≡ false
   opens a c = refl
 
   -- ---- the path that is noted
@@ -246,7 +246,7 @@ module _ (matrix : ℕ → ℕ → Float) (n : ℕ) (start : List Float) (source
       target_fewer = fewer falls (target_fine t positive) on missed pass
 
   -- the job with an allowance
-  module _ (falls : Falls plus_zero matrix n start source) {a : Float} {c : Cap} {i : ℕ} {w : List Float} {tally : Counted}
+  module _ (falls : Falls plus_zero matrix n start source) {a : Float} {c : Option ℕ} {i : ℕ} {w : List Float} {tally : Counted}
       (accepted : rule_fault (Within a c) ≡ 0) (on : OnPath (Within a c) i w tally) where
     pub allowance_met : nonzeros w ≤ 1 → {r : Path} → Noted matrix n start source i i r → Followed matrix n start source (Within a c) r w
     allowance_met h path =

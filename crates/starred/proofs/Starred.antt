@@ -1,6 +1,7 @@
 -- The starred cases hold, each for every seed and edition. What is not draw is computed: the normalized weights, their order, the changes.
 -- A pass on two weights leaves the larger alone whatever the colouring gives (C8), so that stage 1 is known; then the tests that stop a job
 -- are computed too.
+use Rattle.std.specs.Prelude.{None, Some}
 use Prim.Native.Nat.{ℕ, zero, suc, ◌-◌, ◌^◌, ◌<◌}
 use mathlib.Core.Path.{◌≡◌, refl, sym, ap, ◌∙◌, subst}
 use mathlib.Core.Bool.{true, false}
@@ -28,7 +29,6 @@ use Rattle.rules.specs.Rules.{rule_fault}
 use Rattle.faults.specs.Faults.{edition_fault, size_fault, value_fault, job_fault}
 use Rattle.answers.specs.Answers.{refusal, answer_at, Thinned}
 use Rattle.answers.specs.declared.Answer.{Answer}
-use Rattle.rules.specs.declared.Cap.TheVariants.{Absent, AtMost}
 use Rattle.rules.specs.declared.Rule.{Rule}
 use Rattle.rules.specs.declared.Rule.TheVariants.{Target, Within}
 use Rattle.draw.specs.declared.SplitMix64.{SplitMix64}
@@ -187,25 +187,25 @@ module _ (source : SplitMix64) (normal : Normal binary64 2 (at shares)) where
   next_13 = second-left source quarter three_quarters normal both_13 refl (largest_second quarter three_quarters refl refl)
 
   -- stage 1 measures 0.5
-  goes_1 : stops plus_zero columns 2 shares source (Within half Absent) 0 ≡ false
+  goes_1 : stops plus_zero columns 2 shares source (Within half None) 0 ≡ false
   unfolding count of_bits ne max_change change_to max_abs_to larger_of is_nan lt le sub mul add
   goes_1 = rw (stage_0 shares source, next_13)
 
-  stops_1 : stops plus_zero columns 2 shares source (Within half Absent) 1 ≡ true
+  stops_1 : stops plus_zero columns 2 shares source (Within half None) 1 ≡ true
   unfolding count of_bits ne
   stops_1 = rw next_13
 
   -- which is above the allowance
-  stops_2 : stops plus_zero columns 2 shares source (Within under_half Absent) 0 ≡ true
+  stops_2 : stops plus_zero columns 2 shares source (Within under_half None) 0 ≡ true
   unfolding count of_bits ne max_change change_to max_abs_to larger_of is_nan lt le sub mul add
   stops_2 = rw (stage_0 shares source, next_13)
 
   -- the cap is not met before stage 1
-  goes_3 : stops plus_zero columns 2 shares source (Within plus_zero (AtMost 1)) 0 ≡ false
+  goes_3 : stops plus_zero columns 2 shares source (Within plus_zero (Some 1)) 0 ≡ false
   unfolding count of_bits ne
   goes_3 = rw (stage_0 shares source)
 
-  stops_3 : stops plus_zero columns 2 shares source (Within plus_zero (AtMost 1)) 1 ≡ true
+  stops_3 : stops plus_zero columns 2 shares source (Within plus_zero (Some 1)) 1 ≡ true
   unfolding count of_bits ne
   stops_3 = rw next_13
 
@@ -218,15 +218,15 @@ answer_13_first : (rule : Rule) (source : SplitMix64) → Normal binary64 2 (at 
 unfolding tabulate count of_bits ne max_change change_to max_abs_to larger_of is_nan lt sub mul add
 answer_13_first rule source normal = rw (stage_0 shares source)
 
-ruled_1 : rule_fault (Within half Absent) ≡ 0
+ruled_1 : rule_fault (Within half None) ≡ 0
 unfolding of_bits le lt eq
 ruled_1 = refl
 
-ruled_2 : rule_fault (Within under_half Absent) ≡ 0
+ruled_2 : rule_fault (Within under_half None) ≡ 0
 unfolding of_bits le lt eq
 ruled_2 = refl
 
-ruled_3 : rule_fault (Within plus_zero (AtMost 1)) ≡ 0
+ruled_3 : rule_fault (Within plus_zero (Some 1)) ≡ 0
 unfolding of_bits le lt eq
 ruled_3 = refl
 
@@ -366,11 +366,11 @@ case_7 rule seed edition output numbers indices r output' numbers' indices' c kn
     (fault_is rule edition plus_zero plus_zero output numbers indices c known room ∙ fault_7)
 
 fault_14 : (edition : ℕ) (matrix : List Float) (m n : ℕ) (w : List Float) (output numbers indices : ℕ)
-    → job_fault (Within nan (AtMost 0)) edition matrix m n w output numbers indices ≡ 1
+    → job_fault (Within nan (Some 0)) edition matrix m n w output numbers indices ≡ 1
 unfolding job_fault of_bits le lt eq
 fault_14 edition matrix m n w output numbers indices = refl
 
-case_14 : holds (refuses_rule (Within nan (AtMost 0)) 1)
+case_14 : holds (refuses_rule (Within nan (Some 0)) 1)
 case_14 seed edition matrix m n weights output numbers indices r output' numbers' indices' job = refused 0 job
     (fault_14 edition matrix m n weights (length output) (length numbers) (length indices))
 
@@ -390,20 +390,20 @@ case_11_below word e = ap (uniform_at 53) e ∙ largest.1
 
 -- ---- C1 to C3, as calls and as sheets
 
-case_1 : holds (thins (one ∷ three ∷ []) (by (Within half Absent)) (one_left half) (plus_zero ∷ one ∷ []))
+case_1 : holds (thins (one ∷ three ∷ []) (by (Within half None)) (one_left half) (plus_zero ∷ one ∷ []))
 case_1 =
-    called_so one three shares start_13 doubles_13 sound_13 (Within half Absent) 1 (plus_zero ∷ one ∷ []) ruled_1
-    (λ s n. (at_1 (goes_1 s n) (stops_1 s n), next_13 s n)) (answer_13 (Within half Absent))
+    called_so one three shares start_13 doubles_13 sound_13 (Within half None) 1 (plus_zero ∷ one ∷ []) ruled_1
+    (λ s n. (at_1 (goes_1 s n) (stops_1 s n), next_13 s n)) (answer_13 (Within half None))
 
-case_2 : holds (thins (one ∷ three ∷ []) (by (Within under_half Absent)) (at_once 2) shares)
+case_2 : holds (thins (one ∷ three ∷ []) (by (Within under_half None)) (at_once 2) shares)
 case_2 =
-    called_so one three shares start_13 doubles_13 sound_13 (Within under_half Absent) 0 shares ruled_2
-    (λ s n. (at_0 (stops_2 s n), stage_0 shares s)) (answer_13_first (Within under_half Absent))
+    called_so one three shares start_13 doubles_13 sound_13 (Within under_half None) 0 shares ruled_2
+    (λ s n. (at_0 (stops_2 s n), stage_0 shares s)) (answer_13_first (Within under_half None))
 
-case_3 : holds (thins (one ∷ three ∷ []) (by (Within plus_zero (AtMost 1))) (one_left half) (plus_zero ∷ one ∷ []))
+case_3 : holds (thins (one ∷ three ∷ []) (by (Within plus_zero (Some 1))) (one_left half) (plus_zero ∷ one ∷ []))
 case_3 =
-    called_so one three shares start_13 doubles_13 sound_13 (Within plus_zero (AtMost 1)) 1 (plus_zero ∷ one ∷ []) ruled_3
-    (λ s n. (at_1 (goes_3 s n) (stops_3 s n), next_13 s n)) (answer_13 (Within plus_zero (AtMost 1)))
+    called_so one three shares start_13 doubles_13 sound_13 (Within plus_zero (Some 1)) 1 (plus_zero ∷ one ∷ []) ruled_3
+    (λ s n. (at_1 (goes_3 s n) (stops_3 s n), next_13 s n)) (answer_13 (Within plus_zero (Some 1)))
 
 -- the weights 1 and 3 by a rule that is not refused
 module _ (rule : Rule) (answer : Answer) (v : List Float) (ruled : rule_fault rule ≡ 0) (good : answer.number ≡ 0)
@@ -433,23 +433,23 @@ both-left_text = refl
 sheet_1 : holds (on_sheet half_rule one_left_text)
 unfolding digits_of width_in entries_text column_text columns_text tabulate
 sheet_1 seed s =
-    let wish : Wish = within 0x3FE0_0000_0000_0000 Absent in
+    let wish : Wish = within 0x3FE0_0000_0000_0000 None in
     job_of (sheet_with half_rule seed) (saying wish seed) (of_the_form_is_taken (saying wish seed) (fitting wish seed refl s))
-    ∙ text_13 (Within half Absent) (one_left half) (plus_zero ∷ one ∷ []) ruled_1 refl case_1 seed ∙ one-left_text
+    ∙ text_13 (Within half None) (one_left half) (plus_zero ∷ one ∷ []) ruled_1 refl case_1 seed ∙ one-left_text
 
 sheet_2 : holds (on_sheet under_half_rule both_left_text)
 unfolding digits_of width_in entries_text column_text columns_text tabulate
 sheet_2 seed s =
-    let wish : Wish = within 0x3FDF_FFFF_FFFF_FFFF Absent in
+    let wish : Wish = within 0x3FDF_FFFF_FFFF_FFFF None in
     job_of (sheet_with under_half_rule seed) (saying wish seed) (of_the_form_is_taken (saying wish seed) (fitting wish seed refl s))
-    ∙ text_13 (Within under_half Absent) (at_once 2) shares ruled_2 refl case_2 seed ∙ both-left_text
+    ∙ text_13 (Within under_half None) (at_once 2) shares ruled_2 refl case_2 seed ∙ both-left_text
 
 sheet_3 : holds (on_sheet capped_rule one_left_text)
 unfolding digits_of width_in entries_text column_text columns_text tabulate
 sheet_3 seed s =
-    let wish : Wish = within 0 (AtMost 1) in
+    let wish : Wish = within 0 (Some 1) in
     job_of (sheet_with capped_rule seed) (saying wish seed) (of_the_form_is_taken (saying wish seed) (fitting wish seed refl s))
-    ∙ text_13 (Within plus_zero (AtMost 1)) (one_left half) (plus_zero ∷ one ∷ []) ruled_3 refl case_3 seed ∙ one-left_text
+    ∙ text_13 (Within plus_zero (Some 1)) (one_left half) (plus_zero ∷ one ∷ []) ruled_3 refl case_3 seed ∙ one-left_text
 
 -- ---- all of them
 

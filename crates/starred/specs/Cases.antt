@@ -1,6 +1,6 @@
 -- The starred cases of document 01, "Numbers to hold it to": one table, and what each row claims, in the words of the exported calls'
 -- promises.
-use Rattle.std.specs.Prelude.{ℕ, ◌-◌, ◌/◌, ◌^◌, ◌≤◌, ◌<◌, ◌≡◌, true, List, [], ◌∷◌, T, length, Float}
+use Rattle.std.specs.Prelude.{ℕ, ◌-◌, ◌/◌, ◌^◌, ◌≤◌, ◌<◌, ◌≡◌, true, List, [], ◌∷◌, T, length, Float, None, Some}
 use Rattle.std.specs.Float.{nan, binary64}
 use Rattle.std.specs.Float.Ieee.{of_bits}
 use Rattle.seq.specs.Lists.{repeated}
@@ -15,7 +15,6 @@ use Rattle.faults.specs.Faults.{edition_fault}
 use Rattle.sheet.specs.Answer.{sheet_answer}
 use Rattle.starred.specs.SheetBytes.{sheet_with, half_rule, under_half_rule, capped_rule, one_left_text, both_left_text}
 use Rattle.answers.specs.declared.Answer.{Answer}
-use Rattle.rules.specs.declared.Cap.TheVariants.{Absent, AtMost}
 use Rattle.rules.specs.declared.Rule.{Rule}
 use Rattle.rules.specs.declared.Rule.TheVariants.{Target, Within}
 
@@ -129,14 +128,14 @@ one_left change =
 abbrev pub table : List Row
 table =
     -- C1, the sheet: weights 1 and 3, allowance 0.5, no cap
-    record { number = 1; claim = thins (one ∷ three ∷ []) (by (Within half Absent)) (one_left half) (plus_zero ∷ one ∷ []) }
+    record { number = 1; claim = thins (one ∷ three ∷ []) (by (Within half None)) (one_left half) (plus_zero ∷ one ∷ []) }
     -- and from the sheet's bytes to the answer's
     ∷ record { number = 1; claim = on_sheet half_rule one_left_text }
     -- C2, an allowance just below 0.5: the normalized weights
-    ∷ record { number = 2; claim = thins (one ∷ three ∷ []) (by (Within under_half Absent)) (at_once 2) (quarter ∷ three_quarters ∷ []) }
+    ∷ record { number = 2; claim = thins (one ∷ three ∷ []) (by (Within under_half None)) (at_once 2) (quarter ∷ three_quarters ∷ []) }
     ∷ record { number = 2; claim = on_sheet under_half_rule both_left_text }
     -- C3, allowance 0 and cap 1: as C1
-    ∷ record { number = 3; claim = thins (one ∷ three ∷ []) (by (Within plus_zero (AtMost 1))) (one_left half) (plus_zero ∷ one ∷ []) }
+    ∷ record { number = 3; claim = thins (one ∷ three ∷ []) (by (Within plus_zero (Some 1))) (one_left half) (plus_zero ∷ one ∷ []) }
     ∷ record { number = 3; claim = on_sheet capped_rule one_left_text }
     -- C4, equal weights: the first is left
     ∷ record { number = 4; claim = thins (one ∷ one ∷ []) (by (Target 1)) (one_left one) (one ∷ plus_zero ∷ []) }
@@ -154,7 +153,7 @@ table =
     -- C12, 0.5, 0.5 to 1, 0: a margin changes by 1
     ∷ record { number = 12; claim = changes (half ∷ half ∷ []) (one ∷ plus_zero ∷ []) one }
     -- C14, allowance NaN and cap 0
-    ∷ record { number = 14; claim = refuses_rule (Within nan (AtMost 0)) 1 }
+    ∷ record { number = 14; claim = refuses_rule (Within nan (Some 0)) 1 }
     ∷ []
 
 -- ---- what it means

@@ -13,7 +13,6 @@ ghost use Rattle.rules.specs.declared.Rule.TheVariants.{Within};
 use change::change_of;
 use colored::Counted;
 use draw::SplitMix64;
-use rules::Cap;
 use stages::Path;
 use trial::try_pass;
 use tried::Outcome;
@@ -31,7 +30,7 @@ pub fn to_allowance(
     indices: &mut [u32],
     source: SplitMix64,
     allowance: f64,
-    cap: Cap,
+    cap: Option<usize>,
 ) -> Path
     requires { Ready matrix.now bits.now n w.old numbers.old indices.old × (bounded one w.old ≡ true) × (w.old ≡ start.now)
         × (length next.old ≡ length w.old) × (rule_fault (Within allowance cap) ≡ 0) }

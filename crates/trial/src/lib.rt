@@ -11,13 +11,13 @@ ghost use Rattle.tried.specs.Trial.{TriedOnce};
 use change::change_of;
 use colored::Counted;
 use halving::halving_pass;
-use rules::{Cap, meets_cap};
+use rules::meets_cap;
 use seq::copy;
 use tried::{Outcome, Tried};
 use weights::count_nonzeros;
 
 // Whether weights meet the cap, where the change is above the allowance.
-fn ends_there(above: bool, cap: Cap, w: &[f64]) -> bool
+fn ends_there(above: bool, cap: Option<usize>, w: &[f64]) -> bool
     ensures { result ≡ (above && meets cap (nonzeros w.now)) }
 {
     if above {
@@ -39,7 +39,7 @@ pub fn try_pass(
     indices: &mut [u32],
     tally: Counted,
     allowance: f64,
-    cap: Cap,
+    cap: Option<usize>,
 ) -> Tried
     requires { Ready matrix.now bits.now n w.old numbers.old indices.old × (length start.now ≡ length w.old)
         × (length next.old ≡ length w.old) × (2 ≤ nonzeros w.old) × Countable tally 2 }

@@ -1,4 +1,5 @@
 -- One more pass that was tried: what it leaves where it was not taken, and where it was.
+use Rattle.std.specs.Prelude.{Option}
 use Prim.Native.Nat.{ℕ}
 use mathlib.Core.Path.{◌≡◌, sym, ap, ◌∙◌}
 use mathlib.Core.Bool.{true, false, not, ◌&&◌}
@@ -15,7 +16,6 @@ use Rattle.passed.specs.Halving.{pass_of}
 use Rattle.rules.specs.Rules.{meets}
 use Rattle.tried.specs.Trial.{TriedOnce, change_after, above_after, was_taken, goes_onward}
 use Rattle.colored.specs.declared.Counted.{Counted}
-use Rattle.rules.specs.declared.Cap.{Cap}
 use Rattle.tried.specs.declared.Outcome.TheVariants.{Discarded}
 use Rattle.tried.specs.declared.Tried.{Tried}
 
@@ -25,7 +25,7 @@ pub lent_of : {matrix : List Float} {bits : List ℕ} {n : ℕ} {w numbers : Lis
     → length start ≡ length w → Lent matrix bits (length start) n
 lent_of start r e = record { whole = rw e r.whole; few = rw e r.few; short = r.short }
 
-module _ (matrix : ℕ → ℕ → Float) (n : ℕ) (start : List Float) (a : Float) (cap : Cap) (w : List Float)
+module _ (matrix : ℕ → ℕ → Float) (n : ℕ) (start : List Float) (a : Float) (cap : Option ℕ) (w : List Float)
     (tally : Counted) {next v : List Float} {after : Counted}
     (copied : next ≡ w) (pass : halves_of v after ≡ pass_of plus_zero matrix n (halves_of next tally)) where
   same_pass : halves_of v after ≡ pass_of plus_zero matrix n (halves_of w tally)

@@ -1,5 +1,5 @@
 -- Told between functions: what a try of one more pass says.
-use Rattle.std.specs.Prelude.{ℕ, ◌≡◌, Bool, true, false, not, ◌&&◌, List, length, Float}
+use Rattle.std.specs.Prelude.{ℕ, ◌≡◌, Bool, true, false, not, ◌&&◌, List, length, Float, Option}
 use Rattle.std.specs.Float.Ieee.{le}
 use Rattle.seq.specs.Choice.{pick}
 use Rattle.seq.specs.Sums.{plus_zero}
@@ -9,7 +9,6 @@ use Rattle.halved.specs.Handed.{halves_of}
 use Rattle.passed.specs.Halving.{pass_of}
 use Rattle.rules.specs.Rules.{meets}
 use Rattle.colored.specs.declared.Counted.{Counted}
-use Rattle.rules.specs.declared.Cap.{Cap}
 use Rattle.tried.specs.declared.Outcome.{Outcome}
 use Rattle.tried.specs.declared.Outcome.TheVariants.{Discarded, Last, Onward}
 use Rattle.tried.specs.declared.Tried.{Tried}
@@ -35,7 +34,7 @@ goes_onward Onward = true
 
 -- one more pass was tried from the weights w: where it came to, what it measured, whether it was taken, and whether another is to be
 -- tried
-pub record TriedOnce (matrix : ℕ → ℕ → Float) (n : ℕ) (start : List Float) (allowance : Float) (cap : Cap)
+pub record TriedOnce (matrix : ℕ → ℕ → Float) (n : ℕ) (start : List Float) (allowance : Float) (cap : Option ℕ)
     (w : List Float) (tally : Counted) (r : Tried) (w' : List Float) : Type 0 where
   pub pass : halves_of (pass_of plus_zero matrix n (halves_of w tally)).w r.tally ≡ pass_of plus_zero matrix n (halves_of w tally)
   pub change : r.change ≡ change_after matrix n start w tally
