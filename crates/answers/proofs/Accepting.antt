@@ -24,7 +24,7 @@ use Rattle.rules.specs.declared.Rule.{Rule}
 use Rattle.seq.proofs.Every.{every_at}
 use Rattle.seq.proofs.Choosing.{neither, never, shown}
 use Rattle.draw.specs.declared.SplitMix64.{SplitMix64}
-use Rattle.faults.proofs.Whole.{no_fault}
+use Rattle.refusal.proofs.Reasons.{no_fault}
 
 -- a refusal's number is not 0
 pub answered : (fault : ℕ) (a : Answer) → (pick (eqb fault 0) a (refusal fault)).number ≡ 0 → fault ≡ 0

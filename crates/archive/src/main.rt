@@ -3,7 +3,7 @@
 // refused. Entries and weights are made by the generator from the job's seed.
 #![tactic(auto)]
 
-ghost use Rattle.std.specs.Prelude.{◌≤◌, ◌<◌, length};
+ghost use Rattle.std.specs.Prelude.{◌≤◌};
 
 use answers::Answer;
 use draw::SplitMix64;
@@ -12,75 +12,161 @@ use sparsification::{sparsify, sparsify_within};
 use std::io;
 use std::io::Write;
 
-const COLUMNS: [usize; 37] = [
-    2, 3, 4, 5, 8, 8, 9, 12, 16, 24, 32, 32, 40, 60, 60, 60, 7, 20, 2, 6, 8, 8, 16, 16, 24, 24, 32,
-    32, 32, 40, 60, 60, 60, 12, 7, 20, 8,
-];
+// How the entries of a job are made.
+#[derive(Clone, Copy)]
+enum Entries {
+    Signs,
+    Between,
+    Sparse,
+    Ones,
+    Quarters,
+}
 
-const ROWS: [usize; 37] = [
-    2, 5, 3, 1, 16, 16, 40, 7, 64, 30, 64, 64, 50, 100, 120, 80, 9, 20, 2, 6, 16, 16, 20, 20, 30,
-    30, 64, 64, 10, 50, 100, 120, 60, 12, 9, 20, 16,
-];
+impl Entries {
+    // An entry, from a uniform: one or minus one, in [-1, 1], mostly 0, always 1, or a multiple of 1/4.
+    fn made_of(self, u: f64) -> f64 {
+        match self {
+            Entries::Signs => if u < 0.5 { 1.0 } else { -1.0 },
+            Entries::Between => 2.0 * u - 1.0,
+            Entries::Sparse => if u < 0.05 {
+                1.0
+            } else if u < 0.1 {
+                -1.0
+            } else {
+                0.0
+            },
+            Entries::Ones => 1.0,
+            Entries::Quarters => if u < 0.25 {
+                0.25
+            } else if u < 0.5 {
+                -0.75
+            } else {
+                1.0
+            },
+        }
+    }
+}
 
-const ENTRIES: [u64; 37] = [
-    0, 0, 1, 1, 0, 1, 2, 3, 4, 0, 0, 1, 2, 0, 1, 4, 0, 1, 0, 0, 0, 1, 0, 1, 2, 0, 0, 1, 4, 0, 0, 1,
-    2, 3, 0, 1, 1,
-];
+// How the weights of a job are made.
+#[derive(Clone, Copy)]
+enum Weights {
+    Equal,
+    Positive,
+    Signed,
+    FarApart,
+    ManySizes,
+    OftenZero,
+}
 
-const WEIGHTS: [u64; 37] = [
-    0, 1, 0, 2, 0, 1, 0, 4, 1, 2, 0, 2, 1, 0, 1, 2, 3, 5, 0, 0, 1, 2, 0, 1, 0, 2, 0, 1, 2, 4, 0, 2,
-    1, 0, 3, 5, 2,
-];
-// A target, or 0 where the job has an allowance.
-const TARGETS: [usize; 37] = [
-    1, 1, 2, 2, 4, 3, 4, 5, 4, 6, 4, 4, 1, 4, 4, 10, 2, 3, 0, 0, 0, 0, 0, 0, 0, 0, 0, 0, 0, 0, 0,
-    0, 0, 0, 0, 0, 0,
-];
-// An allowance, or -1 for infinity.
-const ALLOWANCES: [f64; 37] = [
-    0.0,
-    0.0,
-    0.0,
-    0.0,
-    0.0,
-    0.0,
-    0.0,
-    0.0,
-    0.0,
-    0.0,
-    0.0,
-    0.0,
-    0.0,
-    0.0,
-    0.0,
-    0.0,
-    0.0,
-    0.0,
-    0.5,
-    0.0,
-    0.25,
-    1.7976931348623157e308,
-    0.3,
-    0.1,
-    0.2,
-    0.05,
-    0.3,
-    0.25,
-    0.4,
-    0.15,
-    0.3,
-    0.2,
-    0.0,
-    0.0,
-    0.1,
-    -0.0,
-    -1.0,
-];
-// A cap, or 0 where there is none.
-const CAPS: [usize; 37] = [
-    0, 0, 0, 0, 0, 0, 0, 0, 0, 0, 0, 0, 0, 0, 0, 0, 0, 0, 0, 0, 0, 0, 0, 5, 0, 3, 0, 8, 1, 0, 0, 0,
-    2, 0, 0, 40, 0,
-];
+impl Weights {
+    // A weight, from a uniform: always 1, in [0, 1], of either sign, 4 or the smallest subnormal, spread over many sizes, or often 0.
+    fn made_of(self, u: f64) -> f64 {
+        match self {
+            Weights::Equal => 1.0,
+            Weights::Positive => u,
+            Weights::Signed => u - 0.4,
+            Weights::FarApart => if u < 0.5 { 4.0 } else { 5e-324 },
+            Weights::ManySizes => u * u * u * u * u * u,
+            Weights::OftenZero => if u < 0.5 { 0.0 } else { u },
+        }
+    }
+}
+
+// A job of the archive: its sizes, its entries and weights, and its rule.
+#[derive(Clone, Copy)]
+struct Kept {
+    m: usize,
+    n: usize,
+    entries: Entries,
+    weights: Weights,
+    rule: Rule,
+}
+
+// A job that thins to a target.
+fn to(target: usize, m: usize, n: usize, entries: Entries, weights: Weights) -> Kept {
+    Kept {
+        m,
+        n,
+        entries,
+        weights,
+        rule: Rule::Target(target),
+    }
+}
+
+// A job that thins within an allowance, with a cap or without.
+fn within(
+    allowance: f64,
+    cap: Option<usize>,
+    m: usize,
+    n: usize,
+    entries: Entries,
+    weights: Weights,
+) -> Kept {
+    Kept {
+        m,
+        n,
+        entries,
+        weights,
+        rule: Rule::Within { allowance, cap },
+    }
+}
+
+// The jobs, in the order of their seeds.
+fn archive() -> [Kept; 37] {
+    [
+        to(1, 2, 2, Entries::Signs, Weights::Equal),
+        to(1, 3, 5, Entries::Signs, Weights::Positive),
+        to(2, 4, 3, Entries::Between, Weights::Equal),
+        to(2, 5, 1, Entries::Between, Weights::Signed),
+        to(4, 8, 16, Entries::Signs, Weights::Equal),
+        to(3, 8, 16, Entries::Between, Weights::Positive),
+        to(4, 9, 40, Entries::Sparse, Weights::Equal),
+        to(5, 12, 7, Entries::Ones, Weights::ManySizes),
+        to(4, 16, 64, Entries::Quarters, Weights::Positive),
+        to(6, 24, 30, Entries::Signs, Weights::Signed),
+        to(4, 32, 64, Entries::Signs, Weights::Equal),
+        to(4, 32, 64, Entries::Between, Weights::Signed),
+        to(1, 40, 50, Entries::Sparse, Weights::Positive),
+        to(4, 60, 100, Entries::Signs, Weights::Equal),
+        to(4, 60, 120, Entries::Between, Weights::Positive),
+        to(10, 60, 80, Entries::Quarters, Weights::Signed),
+        to(2, 7, 9, Entries::Signs, Weights::FarApart),
+        to(3, 20, 20, Entries::Between, Weights::OftenZero),
+        within(0.5, None, 2, 2, Entries::Signs, Weights::Equal),
+        within(0.0, None, 6, 6, Entries::Signs, Weights::Equal),
+        within(0.25, None, 8, 16, Entries::Signs, Weights::Positive),
+        within(
+            1.7976931348623157e308,
+            None,
+            8,
+            16,
+            Entries::Between,
+            Weights::Signed,
+        ),
+        within(0.3, None, 16, 20, Entries::Signs, Weights::Equal),
+        within(0.1, Some(5), 16, 20, Entries::Between, Weights::Positive),
+        within(0.2, None, 24, 30, Entries::Sparse, Weights::Equal),
+        within(0.05, Some(3), 24, 30, Entries::Signs, Weights::Signed),
+        within(0.3, None, 32, 64, Entries::Signs, Weights::Equal),
+        within(0.25, Some(8), 32, 64, Entries::Between, Weights::Positive),
+        within(0.4, Some(1), 32, 10, Entries::Quarters, Weights::Signed),
+        within(0.15, None, 40, 50, Entries::Signs, Weights::ManySizes),
+        within(0.3, None, 60, 100, Entries::Signs, Weights::Equal),
+        within(0.2, None, 60, 120, Entries::Between, Weights::Signed),
+        within(0.0, Some(2), 60, 60, Entries::Sparse, Weights::Positive),
+        within(0.0, None, 12, 12, Entries::Ones, Weights::Equal),
+        within(0.1, None, 7, 9, Entries::Signs, Weights::FarApart),
+        within(-0.0, Some(40), 20, 20, Entries::Between, Weights::OftenZero),
+        within(
+            f64::INFINITY,
+            None,
+            8,
+            16,
+            Entries::Between,
+            Weights::Signed,
+        ),
+    ]
+}
 
 // An answer, its totals, its path and its weights.
 fn show<W: Write>(out: &mut W, a: &Answer, output: &[f64]) -> io::Result<()> {
@@ -91,103 +177,25 @@ fn show<W: Write>(out: &mut W, a: &Answer, output: &[f64]) -> io::Result<()> {
     put(out, b"\n")
 }
 
-// An entry by its kind, from a uniform: 0 one or minus one, 1 in [-1, 1], 2 mostly 0, 3 always 1, and else a multiple of 1/4.
-fn entry_of(kind: u64, u: f64) -> f64 {
-    if kind == 0 {
-        return if u < 0.5 { 1.0 } else { -1.0 };
-    }
-    if kind == 1 {
-        return 2.0 * u - 1.0;
-    }
-    if kind == 2 {
-        return if u < 0.05 {
-            1.0
-        } else if u < 0.1 {
-            -1.0
-        } else {
-            0.0
-        };
-    }
-    if kind == 3 {
-        return 1.0;
-    }
-    if u < 0.25 {
-        0.25
-    } else if u < 0.5 {
-        -0.75
-    } else {
-        1.0
-    }
-}
-
-// A weight by its kind: 0 always 1, 1 in [0, 1], 2 of either sign, 3 4 or the smallest subnormal, 4 spread over many sizes, and else
-// often 0.
-fn weight_of(kind: u64, u: f64) -> f64 {
-    if kind == 0 {
-        return 1.0;
-    }
-    if kind == 1 {
-        return u;
-    }
-    if kind == 2 {
-        return u - 0.4;
-    }
-    if kind == 3 {
-        return if u < 0.5 { 4.0 } else { 5e-324 };
-    }
-    if kind == 4 {
-        return u * u * u * u * u * u;
-    }
-    if u < 0.5 { 0.0 } else { u }
-}
-
-fn fill_entries(a: &mut [f64], kind: u64, rng: &mut SplitMix64) {
-    for x in a.iter_mut() {
-        *x = entry_of(kind, rng.uniform());
-    }
-}
-
-fn fill_weights(a: &mut [f64], kind: u64, rng: &mut SplitMix64) {
-    for x in a.iter_mut() {
-        *x = weight_of(kind, rng.uniform());
-    }
-}
-
-// One job of the archive.
-fn replay<W: Write>(out: &mut W, k: usize) -> io::Result<()>
-    requires { k < 37 }
-{
-    let m = COLUMNS[k];
-    let n = ROWS[k];
-    if m > 64 {
+// One job of the archive: makes its entries and its weights, and answers it.
+fn replay<W: Write>(out: &mut W, job: Kept, seed: u64) -> io::Result<()> {
+    if job.m > 64 {
         return Ok(());
     }
-    if n > 128 {
+    if job.n > 128 {
         return Ok(());
     }
-    let size = m * n;
+    let size = job.m * job.n;
     let mut matrix = [0.0f64; 8192];
     let mut weights = [0.0f64; 64];
-    make(out, &mut matrix[..size], &mut weights[..m], m, n, k)
-}
-
-// Makes the entries and the weights of a job, and answers it.
-fn make<W: Write>(
-    out: &mut W,
-    matrix: &mut [f64],
-    weights: &mut [f64],
-    m: usize,
-    n: usize,
-    k: usize,
-) -> io::Result<()>
-    requires { (k < 37) × (m ≤ 64) }
-{
-    let seed = k as u64;
     let mut rng = SplitMix64::new(seed, 1);
-    fill_entries(&mut matrix[..], ENTRIES[k], &mut rng);
-    fill_weights(&mut weights[..], WEIGHTS[k], &mut rng);
-    let mut output = [0.0f64; 64];
-    answer(out, &matrix[..], &weights[..], m, n, k, &mut output[..m])
+    for x in matrix[..size].iter_mut() {
+        *x = job.entries.made_of(rng.uniform());
+    }
+    for x in weights[..job.m].iter_mut() {
+        *x = job.weights.made_of(rng.uniform());
+    }
+    answer(out, &matrix[..size], &weights[..job.m], job, seed)
 }
 
 // Thins by a target or within an allowance, and shows what comes of it.
@@ -195,67 +203,49 @@ fn answer<W: Write>(
     out: &mut W,
     matrix: &[f64],
     weights: &[f64],
-    m: usize,
-    n: usize,
-    k: usize,
-    output: &mut [f64],
+    job: Kept,
+    seed: u64,
 ) -> io::Result<()>
-    requires { k < 37 }
+    requires { job.m ≤ 64 }
 {
-    let seed = k as u64;
-    let target = TARGETS[k];
+    let mut output = [0.0f64; 64];
     let mut numbers = [0.0f64; 14000];
     let mut indices = [0u32; 2048];
-    if target != 0 {
-        let a = sparsify(
+    let kept = &mut output[..job.m];
+    let a = match job.rule {
+        Rule::Target(target) => sparsify(
             matrix,
-            m,
-            n,
+            job.m,
+            job.n,
             weights,
             seed,
             1,
             target,
-            &mut output[..],
+            &mut kept[..],
             &mut numbers[..],
             &mut indices[..],
-        );
-        show(out, &a, &output[..])
-    } else {
-        let a = sparsify_within(
+        ),
+        Rule::Within { allowance, cap } => sparsify_within(
             matrix,
-            m,
-            n,
+            job.m,
+            job.n,
             weights,
             seed,
             1,
-            allowance_of(ALLOWANCES[k]),
-            cap_of(CAPS[k]),
-            &mut output[..],
+            allowance,
+            cap,
+            &mut kept[..],
             &mut numbers[..],
             &mut indices[..],
-        );
-        show(out, &a, &output[..])
-    }
-}
-
-// The allowance that the table means.
-fn allowance_of(a: f64) -> f64 {
-    if a < 0.0 { 1.0 / 0.0 } else { a }
-}
-
-// The cap that the table means.
-fn cap_of(cap: usize) -> Option<usize> {
-    if cap == 0 {
-        None
-    } else {
-        Some(cap)
-    }
+        ),
+    };
+    show(out, &a, &kept[..])
 }
 
 fn main(rt: HostRuntime) -> io::Result<()> {
     let mut out = rt.stdout();
-    for k in 0..37usize {
-        replay(&mut out, k)?;
+    for (k, job) in archive().iter().enumerate() {
+        replay(&mut out, *job, k as u64)?;
     }
     Ok(())
 }

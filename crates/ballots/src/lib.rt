@@ -28,7 +28,7 @@ pub fn thin_bits(
         indices.new }
 {
     let rule = job.rule;
-    let number = votes_fault(
+    if let Err(refusal) = votes_fault(
         rule,
         job.edition,
         bits,
@@ -38,9 +38,8 @@ pub fn thin_bits(
         output.len(),
         numbers.len(),
         indices.len(),
-    );
-    if number != 0 {
-        return refused(number);
+    ) {
+        return refused(refusal.number());
     }
     let none = [0.0f64; 0];
     let mut start = [0.0f64; 256];

@@ -40,9 +40,8 @@ fn thin_item(
         output.old numbers.old indices.old result output.new numbers.new
         indices.new }
 {
-    let number = item_fault(rule, source.edition, weights);
-    if number != 0 {
-        return refused(number);
+    if let Err(refusal) = item_fault(rule, source.edition, weights) {
+        return refused(refusal.number());
     }
     let mut start = [0.0f64; 256];
     thin_sound(
@@ -85,11 +84,10 @@ fn thin_items(
         indices.new }
 {
     let mut answers = no_answers(0);
-    let mut i = 0usize;
-    while i < items {
+    for i in 0..items {
         let a = i * m;
         let e = a + m;
-        let answer = thin_item(
+        answers.items[i] = thin_item(
             matrix,
             bits,
             m,
@@ -101,15 +99,12 @@ fn thin_items(
             &mut numbers[..],
             &mut indices[..],
         );
-        answers.items[i] = answer;
-        i += 1;
     }
     answers
 }
 
-// Thins the items of a call whose number is 0, on a scratch that is wiped first, and refuses another.
+// Thins the items of a call that is not refused as a whole, on a scratch that is wiped first.
 fn thin_tested(
-    number: u64,
     matrix: &[f64],
     bits: &[u8],
     m: usize,
@@ -125,16 +120,13 @@ fn thin_tested(
     numbers: &mut [f64],
     indices: &mut [u32],
 ) -> Answers
-    requires { Tested number matrix.now bits.now m n items (listed weights.now seeds.now editions.now rules.now
+    requires { Tested 0 matrix.now bits.now m n items (listed weights.now seeds.now editions.now rules.now
         allowances.now limits.now) (length output.old) (length numbers.old) (length indices.old) }
-    ensures { AllThinned number (lent_as matrix.now bits.now m n) m n items
+    ensures { AllThinned 0 (lent_as matrix.now bits.now m n) m n items
         (listed weights.now seeds.now editions.now
         rules.now allowances.now limits.now) output.old numbers.old
         indices.old result output.new numbers.new indices.new }
 {
-    if number != 0 {
-        return no_answers(number);
-    }
     fill(&mut numbers[..], 0.0);
     fill(&mut indices[..], 0);
     thin_items(
@@ -163,7 +155,7 @@ pub fn thin_all(
         rules.now allowances.now limits.now) output.old numbers.old
         indices.old result output.new numbers.new indices.new }
 {
-    let number = whole_fault(
+    if let Err(refusal) = whole_fault(
         items,
         matrix,
         m,
@@ -177,10 +169,11 @@ pub fn thin_all(
         output.len(),
         numbers.len(),
         indices.len(),
-    );
+    ) {
+        return no_answers(refusal.number());
+    }
     let none = [0u8; 0];
     thin_tested(
-        number,
         matrix,
         &none[..],
         m,
@@ -218,7 +211,7 @@ pub fn thin_all_bits(
         editions.now rules.now allowances.now limits.now) output.old
         numbers.old indices.old result output.new numbers.new indices.new }
 {
-    let number = bits_whole_fault(
+    if let Err(refusal) = bits_whole_fault(
         items,
         bits,
         m,
@@ -232,10 +225,11 @@ pub fn thin_all_bits(
         output.len(),
         numbers.len(),
         indices.len(),
-    );
+    ) {
+        return no_answers(refusal.number());
+    }
     let none = [0.0f64; 0];
     thin_tested(
-        number,
         &none[..],
         bits,
         m,

@@ -20,7 +20,7 @@ use Rattle.rules.specs.Rules.{rule_fault}
 use Rattle.rules.specs.declared.Rule.{Rule}
 use Rattle.draw.specs.declared.SplitMix64.{SplitMix64}
 use Rattle.faults.specs.Faults.{edition_fault, room_fault, size_fault, weight_fault, value_fault, job_fault}
-use Rattle.faults.proofs.Whole.{no_fault}
+use Rattle.refusal.proofs.Reasons.{no_fault}
 use Rattle.faults.proofs.AsDoubles.{votes_bounded}
 use Rattle.answers.specs.Answers.{Thinned, answer_of, refusal}
 use Rattle.answers.specs.declared.Answer.{Answer}

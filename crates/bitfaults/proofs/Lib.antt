@@ -1,5 +1,4 @@
 -- Laws of those answers: they are those of the doubles that the bits stand for.
-pub mod Refusing
 pub mod Expanded
 pub mod Outcomes
 pub mod AcrossForms

@@ -2,14 +2,17 @@
 #![tactic(auto)]
 
 ghost use Rattle.std.specs.Prelude.{◌≡◌};
+ghost use Rattle.refusal.specs.Refusals.{number_in};
 ghost use Rattle.bitfaults.specs.Refusals.{bytes_fault, votes_fault};
 
 use faults::{edition_fault, room_fault, weight_fault};
 use limits::too_large;
+use refusal::Refusal;
 use rules::{Rule, rule_fault};
 use spare::spare_clear;
 
 // 3 to 6, of the sizes.
+#[tactic(auto, unfolding(crate::specs::Refusals::bytes_fault))]
 fn bytes_fault(
     m: usize,
     n: usize,
@@ -18,25 +21,20 @@ fn bytes_fault(
     output: usize,
     numbers: usize,
     indices: usize,
-) -> u64
-    ensures { result ≡ bytes_fault m n bytes weights output numbers indices }
+) -> Result<(), Refusal>
+    ensures { number_in result ≡ bytes_fault m n bytes weights output numbers indices }
 {
     if too_large(m, n) {
-        return 3;
+        return Err(Refusal::Size);
     }
-    if bytes != m * ((n + 7) / 8) {
-        return 4;
-    }
-    if weights != m {
-        return 4;
-    }
-    if output != m {
-        return 4;
+    if bytes != m * ((n + 7) / 8) || weights != m || output != m {
+        return Err(Refusal::Length);
     }
     room_fault(m, n, numbers, indices)
 }
 
-// The first number that applies, or 0.
+// The first reason that applies.
+#[tactic(auto, unfolding(crate::specs::Refusals::votes_fault))]
 pub fn votes_fault(
     rule: Rule,
     edition: u32,
@@ -47,23 +45,14 @@ pub fn votes_fault(
     output: usize,
     numbers: usize,
     indices: usize,
-) -> u64
-    ensures { result ≡ votes_fault rule edition bits.now m n weights.now output numbers indices }
+) -> Result<(), Refusal>
+    ensures { number_in result ≡ votes_fault rule edition bits.now m n weights.now output numbers indices }
 {
-    let first = rule_fault(rule);
-    if first != 0 {
-        return first;
-    }
-    let second = edition_fault(edition);
-    if second != 0 {
-        return second;
-    }
-    let third = bytes_fault(m, n, bits.len(), weights.len(), output, numbers, indices);
-    if third != 0 {
-        return third;
-    }
+    rule_fault(rule)?;
+    edition_fault(edition)?;
+    bytes_fault(m, n, bits.len(), weights.len(), output, numbers, indices)?;
     if !spare_clear(bits, m, n) {
-        return 15;
+        return Err(Refusal::SpareBit);
     }
     weight_fault(weights)
 }

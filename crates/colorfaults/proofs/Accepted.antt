@@ -1,6 +1,5 @@
--- What holds of the arguments of a colouring that is not refused: no test of `coloring_fault` held, so the sizes fit. And the number once they do: the
--- entries decide.
-use borrow.Author.Tests.{eqb-true, not-false, eq-eqb}
+-- What holds of the arguments of a colouring that is not refused: no test of `coloring_fault` held, so the sizes fit.
+use borrow.Author.Tests.{eqb-true, not-false}
 use Prim.Native.Nat.{ℕ, ◌+◌, ◌*◌, ◌≤◌}
 use mathlib.Core.Path.{◌≡◌, refl}
 use mathlib.Core.Bool.{Bool, true, false, not, ◌||◌}
@@ -49,13 +48,3 @@ accepted matrix m n output numbers indices h =
       words = omega arith;
       within = tests.3;
     }
-
-module _ (matrix : List Float) (m n output numbers indices : ℕ)
-    (fit : too_large m n ≡ false) (area : length matrix ≡ m * n) (colours : not (eqb output m) ≡ false) (room : scratch_short m n numbers indices ≡ false) where
-  pub granted : bounded most_entry matrix ≡ true → 0 ≡ coloring_fault matrix m n output numbers indices
-  unfolding coloring_fault
-  granted h = rw (fit, eq-eqb (length matrix) (m * n) area, colours, room, h)
-
-  pub unbounded : bounded most_entry matrix ≡ false → 11 ≡ coloring_fault matrix m n output numbers indices
-  unfolding coloring_fault
-  unbounded h = rw (fit, eq-eqb (length matrix) (m * n) area, colours, room, h)

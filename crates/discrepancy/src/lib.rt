@@ -61,10 +61,9 @@ pub fn discrepancy_coloring(
     ensures { DiscrepancyColored matrix.now m n seed output.old numbers.old
         indices.old result output.new numbers.new indices.new }
 {
-    let number = coloring_fault(matrix, m, n, output.len(), numbers.len(), indices.len());
-    if number != 0 {
+    if let Err(refusal) = coloring_fault(matrix, m, n, output.len(), numbers.len(), indices.len()) {
         return Colored {
-            number,
+            number: refusal.number(),
             directions: 0,
             sweeps: 0,
         };

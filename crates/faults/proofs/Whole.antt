@@ -1,8 +1,8 @@
--- The number that a call for several items is refused by as a whole, for each way that the tests go in order; and what it has to do with the single
--- call's: a call for one item and that item's own tests have together the single call's number, and in a call that is not refused as a whole each
--- item's own tests have it alone.
+-- What the number that a call for several items is refused by as a whole has to do with the single call's: a call for one item and that item's own
+-- tests have together the single call's number, and in a call that is not refused as a whole, which has the sizes that it is to have, each item's own
+-- tests have it alone.
 use Prim.Native.Nat.{ℕ, zero, suc, ◌*◌, ◌≤◌}
-use mathlib.Core.Path.{◌≡◌, refl, sym, ap, ◌∙◌}
+use mathlib.Core.Path.{◌≡◌, refl, ap}
 use mathlib.Core.Bool.{Bool, true, false, not, ◌||◌}
 use mathlib.Core.List.{List}
 use native.Mathlib.Nat.{one-mul}
@@ -10,59 +10,17 @@ use native.Mathlib.Omega.{arith}
 use lib.Dec.{eqb, ltb, eqb-suc-zero}
 use lib.ListN.{length}
 use lib.Ieee.{Float}
-use borrow.Author.Tests.{eq-eqb, ne_eqb, eqb-true, ltb-false, not-false}
+use borrow.Author.Tests.{eq-eqb, eqb-true, ltb-false, not-false}
 use Rattle.seq.specs.Choice.{pick, or_else}
 use Rattle.seq.proofs.Choosing.{neither}
 use Rattle.limits.specs.Limits.{too_large, bounded}
 use Rattle.limits.specs.Votes.{bytes_of, spare_clear, spare_fault}
-use Rattle.limits.proofs.Sizes.{small}
 use Rattle.ieee.specs.Constants.{one}
+use Rattle.refusal.proofs.Reasons.{no_fault}
 use Rattle.rules.specs.Rules.{rule_fault}
 use Rattle.rules.specs.declared.Rule.{Rule}
 use Rattle.faults.specs.Faults.{edition_fault, room_fault, size_fault, weight_fault, value_fault, job_fault, lists_off, whole_of, whole_fault, bits_whole_fault}
 use Rattle.faults.specs.Faults.{item_fault}
-
--- the test of the lists first and then of the scratch, each before what is found
-lists_first : (off : Bool) (room found : ℕ) → or_else (pick off 4 room) found ≡ pick off 4 (or_else room found)
-lists_first true room found = refl
-lists_first false room found = refl
-
-module _ (items m n entries matrix weights seeds editions rules allowances limits output numbers indices found : ℕ) where
-  pub large_refused : (ltb 64 items || too_large m n) ≡ true
-      → 3 ≡ whole_of items m n entries matrix weights seeds editions rules allowances limits output numbers indices found
-  large_refused h = rw h
-
-  module _ (fine : (ltb 64 items || too_large m n) ≡ false) {sizes : ℕ}
-      (e : sizes ≡ pick (lists_off items m entries matrix weights seeds editions rules allowances limits output) 4 (room_fault m n numbers indices)) where
-    found-last : whole_of items m n entries matrix weights seeds editions rules allowances limits output numbers indices found ≡ or_else sizes found
-    found-last =
-        rw fine (sym (lists_first (lists_off items m entries matrix weights seeds editions rules allowances limits output) (room_fault m n numbers indices) found)
-        ∙ ap (λ (k : ℕ). or_else k found) (sym e))
-
-    pub sizes_refused : (sizes ≡ 0 → ⊥) → sizes ≡ whole_of items m n entries matrix weights seeds editions rules allowances limits output numbers indices found
-    sizes_refused h = sym (found-last ∙ rw (ne_eqb sizes 0 h))
-
-    pub found_left : sizes ≡ 0 → {k : ℕ} → k ≡ found
-        → k ≡ whole_of items m n entries matrix weights seeds editions rules allowances limits output numbers indices found
-    found_left h g = g ∙ sym (found-last ∙ rw (eq-eqb sizes 0 h))
-
--- a call that is not too large has few items, and few columns and rows
-pub record Few (items m n : ℕ) : Type 0 where
-  pub few : items ≤ 64
-  pub fine : too_large m n ≡ false
-  pub columns : m ≤ 256
-  pub rows : n ≤ 4096
-
-pub few_of : (items m n : ℕ) → (ltb 64 items || too_large m n) ≡ false → Few items m n
-few_of items m n h =
-    let x = neither (ltb 64 items) (too_large m n) h in
-    let s = small m n x.1 in
-    record { few = ltb-false 64 items x.0; fine = x.1; columns = s.columns; rows = s.rows }
-
--- of two numbers of which the first that is not 0 is given, neither is given
-pub no_fault : (a b : ℕ) → or_else a b ≡ 0 → (a ≡ 0) × (b ≡ 0)
-no_fault zero b h = (refl, h)
-no_fault (suc a) b h = absurd (let g : suc a ≡ 0 = rw (eqb-suc-zero a) at h in omega arith)
 
 -- the sizes of a call that is not refused as a whole
 pub record Fits (items m n entries matrix weights seeds editions rules allowances limits output numbers indices : ℕ) : Type 0 where

@@ -5,9 +5,11 @@
 ghost use Rattle.std.specs.Prelude.{◌≡◌, ◌≤◌};
 ghost use Rattle.faults.specs.Faults.{rule_named, edition_fault, room_fault, size_fault, weight_fault, value_fault, job_fault};
 ghost use Rattle.faults.specs.Faults.{item_fault};
+ghost use Rattle.refusal.specs.Refusals.{number_in};
 
 use ieee::is_finite;
 use limits::{all_bounded, all_finite, scratch_short, too_large};
+use refusal::Refusal;
 use rules::{Rule, rule_fault};
 use weights::l1;
 
@@ -16,53 +18,46 @@ use weights::l1;
 pub fn named_rule(number: u32, allowance: f64, limit: usize) -> Rule
     ensures { result ≡ rule_named number allowance limit }
 {
-    if number == 0 {
-        return Rule::Target(limit);
-    }
-    if number == 1 {
-        return Rule::Within {
+    match number {
+        0 => Rule::Target(limit),
+        1 => Rule::Within {
             allowance,
             cap: None,
-        };
-    }
-    if number == 2 {
-        return Rule::Within {
+        },
+        2 => Rule::Within {
             allowance,
             cap: Some(limit),
-        };
+        },
+        _ => Rule::Target(0),
     }
-    Rule::Target(0)
 }
 
 // 13 where the edition is neither 1 nor 2.
-pub fn edition_fault(edition: u32) -> u64
-    ensures { result ≡ edition_fault edition }
+pub fn edition_fault(edition: u32) -> Result<(), Refusal>
+    ensures { number_in result ≡ edition_fault edition }
 {
-    if edition == 1 {
-        return 0;
+    match edition {
+        1 | 2 => Ok(()),
+        _ => Err(Refusal::Edition),
     }
-    if edition == 2 { 0 } else { 13 }
 }
 
 // 5 and 6, of what is there at all and of the scratch.
-pub fn room_fault(m: usize, n: usize, numbers: usize, indices: usize) -> u64
+pub fn room_fault(m: usize, n: usize, numbers: usize, indices: usize) -> Result<(), Refusal>
     requires { (m ≤ 256) × (n ≤ 4096) }
-    ensures { result ≡ room_fault m n numbers indices }
+    ensures { number_in result ≡ room_fault m n numbers indices }
 {
-    if m == 0 {
-        return 5;
-    }
-    if n == 0 {
-        return 5;
+    if m == 0 || n == 0 {
+        return Err(Refusal::Empty);
     }
     if scratch_short(m, n, numbers, indices) {
-        6
-    } else {
-        0
+        return Err(Refusal::Scratch);
     }
+    Ok(())
 }
 
 // 3 to 6, of the sizes.
+#[tactic(auto, unfolding(crate::specs::Faults::size_fault))]
 pub fn size_fault(
     m: usize,
     n: usize,
@@ -71,49 +66,46 @@ pub fn size_fault(
     output: usize,
     numbers: usize,
     indices: usize,
-) -> u64
-    ensures { result ≡ size_fault m n matrix weights output numbers indices }
+) -> Result<(), Refusal>
+    ensures { number_in result ≡ size_fault m n matrix weights output numbers indices }
 {
     if too_large(m, n) {
-        return 3;
+        return Err(Refusal::Size);
     }
-    if matrix != m * n {
-        return 4;
-    }
-    if weights != m {
-        return 4;
-    }
-    if output != m {
-        return 4;
+    if matrix != m * n || weights != m || output != m {
+        return Err(Refusal::Length);
     }
     room_fault(m, n, numbers, indices)
 }
 
 // 8 and 9, of the weights.
-pub fn weight_fault(weights: &[f64]) -> u64
-    ensures { result ≡ weight_fault weights.now }
+pub fn weight_fault(weights: &[f64]) -> Result<(), Refusal>
+    ensures { number_in result ≡ weight_fault weights.now }
 {
     if !all_finite(weights) {
-        return 8;
+        return Err(Refusal::Weight);
     }
     let sum = l1(weights);
-    if !(sum > 0.0) {
-        return 9;
+    if sum > 0.0 && is_finite(sum) {
+        Ok(())
+    } else {
+        Err(Refusal::Sum)
     }
-    if is_finite(sum) { 0 } else { 9 }
 }
 
 // 7 to 9, of the values.
-fn value_fault(matrix: &[f64], weights: &[f64]) -> u64
-    ensures { result ≡ value_fault matrix.now weights.now }
+#[tactic(auto, unfolding(crate::specs::Faults::value_fault))]
+fn value_fault(matrix: &[f64], weights: &[f64]) -> Result<(), Refusal>
+    ensures { number_in result ≡ value_fault matrix.now weights.now }
 {
     if !all_bounded(matrix, 1.0) {
-        return 7;
+        return Err(Refusal::Entry);
     }
     weight_fault(weights)
 }
 
-// The first number that applies, or 0.
+// The first reason that applies.
+#[tactic(auto, unfolding(crate::specs::Faults::job_fault))]
 pub fn job_fault(
     rule: Rule,
     edition: u32,
@@ -124,35 +116,20 @@ pub fn job_fault(
     output: usize,
     numbers: usize,
     indices: usize,
-) -> u64
-    ensures { result ≡ job_fault rule edition matrix.now m n weights.now output numbers indices }
+) -> Result<(), Refusal>
+    ensures { number_in result ≡ job_fault rule edition matrix.now m n weights.now output numbers indices }
 {
-    let first = rule_fault(rule);
-    if first != 0 {
-        return first;
-    }
-    let second = edition_fault(edition);
-    if second != 0 {
-        return second;
-    }
-    let third = size_fault(m, n, matrix.len(), weights.len(), output, numbers, indices);
-    if third != 0 {
-        return third;
-    }
+    rule_fault(rule)?;
+    edition_fault(edition)?;
+    size_fault(m, n, matrix.len(), weights.len(), output, numbers, indices)?;
     value_fault(matrix, weights)
 }
 
 // What an item of a call that is not refused as a whole is refused for.
-pub fn item_fault(rule: Rule, edition: u32, weights: &[f64]) -> u64
-    ensures { result ≡ item_fault rule edition weights.now }
+pub fn item_fault(rule: Rule, edition: u32, weights: &[f64]) -> Result<(), Refusal>
+    ensures { number_in result ≡ item_fault rule edition weights.now }
 {
-    let first = rule_fault(rule);
-    if first != 0 {
-        return first;
-    }
-    let second = edition_fault(edition);
-    if second != 0 {
-        return second;
-    }
+    rule_fault(rule)?;
+    edition_fault(edition)?;
     weight_fault(weights)
 }

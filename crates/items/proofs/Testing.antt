@@ -15,7 +15,7 @@ use Rattle.faults.proofs.AsDoubles.{none_outside, wholes_agree}
 use Rattle.answers.proofs.Accepting.{sizes-good}
 use Rattle.answers.proofs.Finishing.{doubles_whole}
 use Rattle.items.specs.Items.{Items}
-use Rattle.items.specs.All.{call_fault, bits_call_fault, AllThinned, BitsThinnedAll}
+use Rattle.items.specs.All.{call_fault, bits_call_fault, AllThinned, ThinnedAll, BitsThinnedAll}
 use Rattle.items.specs.Lent.{lent_as}
 use Rattle.items.specs.Between.{Tested}
 use Rattle.items.specs.declared.Answers.{Answers}
@@ -81,6 +81,13 @@ module _ {fault m n items : ℕ} {list : Items} (output numbers : List Float) (i
           small = none_outside;
         };
       }
+
+pub done_doubles : {matrix : List Float} {m n items : ℕ} {list : Items} {output numbers : List Float} {indices : List ℕ}
+    {r : Answers} {output' numbers' : List Float} {indices' : List ℕ} {fault : ℕ}
+    → fault ≡ call_fault matrix m n items list (length output) (length numbers) (length indices)
+    → AllThinned fault matrix m n items list output numbers indices r output' numbers' indices'
+    → ThinnedAll matrix m n items list output numbers indices r output' numbers' indices'
+done_doubles e job = rw e at job
 
 -- a call that is refused says nothing of the matrix
 other_matrix : (fault : ℕ) {a b : List Float} {m n items : ℕ} {list : Items} {output numbers : List Float} {indices : List ℕ}

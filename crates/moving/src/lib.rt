@@ -3,11 +3,13 @@
 
 ghost use Rattle.std.specs.Prelude.{◌≡◌, ◌≤◌, ◌<◌, length};
 ghost use Rattle.marking.specs.Moved.{Working, Moved};
+ghost use Rattle.refusal.specs.Refusals.{number_in};
 ghost use Rattle.movefaults.specs.Changes.{Taken};
 ghost use Rattle.movefaults.specs.Answers.{lent_changes, Listed};
 
 use change::changes_into;
 use movefaults::moved_fault;
+use refusal::{Refusal, number_in};
 use sorting::list_moved;
 
 // The list of the changes. The keys are the changes in row order.
@@ -34,8 +36,8 @@ pub fn list_changes(
     list_moved(rows, changes, &keys[..], room, counts, again);
 }
 
-// The same of very few rows, with 192 bytes of its own to work in.
-fn list_least(
+// The same, with arrays of its own to work in: for at most N rows, and with the C counters that 256 rows and more ask for.
+fn list_within<const N: usize, const C: usize>(
     matrix: &[f64],
     n: usize,
     before: &[f64],
@@ -45,14 +47,14 @@ fn list_least(
     again: bool,
 )
     requires { Taken matrix.now (length before.now) n before.now after.now
-        × (length rows.old ≡ n) × (length changes.old ≡ n) × (n ≤ 16) }
+        × (length rows.old ≡ n) × (length changes.old ≡ n) × (n ≤ N) × (N ≤ 4096) × (C ≤ 2048) × Working n n C }
     ensures { Moved
         (lent_changes matrix.now (length before.now) n before.now after.now)
         rows.new changes.new }
 {
-    let mut keys = [0.0f64; 16];
-    let mut room = [0u32; 16];
-    let mut counts = [0u32; 0];
+    let mut keys = [0.0f64; N];
+    let mut room = [0u32; N];
+    let mut counts = [0u32; C];
     list_changes(
         matrix,
         n,
@@ -62,111 +64,12 @@ fn list_least(
         changes,
         &mut keys[..n],
         &mut room[..n],
-        &mut counts[..],
+        &mut counts,
         again,
     );
 }
 
-// The same of few rows, with 768 bytes of its own to work in.
-fn list_few(
-    matrix: &[f64],
-    n: usize,
-    before: &[f64],
-    after: &[f64],
-    rows: &mut [u32],
-    changes: &mut [f64],
-    again: bool,
-)
-    requires { Taken matrix.now (length before.now) n before.now after.now
-        × (length rows.old ≡ n) × (length changes.old ≡ n) × (n ≤ 64) }
-    ensures { Moved
-        (lent_changes matrix.now (length before.now) n before.now after.now)
-        rows.new changes.new }
-{
-    let mut keys = [0.0f64; 64];
-    let mut room = [0u32; 64];
-    let mut counts = [0u32; 0];
-    list_changes(
-        matrix,
-        n,
-        before,
-        after,
-        rows,
-        changes,
-        &mut keys[..n],
-        &mut room[..n],
-        &mut counts[..],
-        again,
-    );
-}
-
-// The same of more rows, but so few that no digit is counted, with 3 KiB of its own to work in.
-fn list_more(
-    matrix: &[f64],
-    n: usize,
-    before: &[f64],
-    after: &[f64],
-    rows: &mut [u32],
-    changes: &mut [f64],
-    again: bool,
-)
-    requires { Taken matrix.now (length before.now) n before.now after.now
-        × (length rows.old ≡ n) × (length changes.old ≡ n) × (n < 256) }
-    ensures { Moved
-        (lent_changes matrix.now (length before.now) n before.now after.now)
-        rows.new changes.new }
-{
-    let mut keys = [0.0f64; 256];
-    let mut room = [0u32; 256];
-    let mut counts = [0u32; 0];
-    list_changes(
-        matrix,
-        n,
-        before,
-        after,
-        rows,
-        changes,
-        &mut keys[..n],
-        &mut room[..n],
-        &mut counts[..],
-        again,
-    );
-}
-
-// The same of any number of rows, with 56 KiB of its own to work in.
-fn list_any(
-    matrix: &[f64],
-    n: usize,
-    before: &[f64],
-    after: &[f64],
-    rows: &mut [u32],
-    changes: &mut [f64],
-    again: bool,
-)
-    requires { Taken matrix.now (length before.now) n before.now after.now
-        × (length rows.old ≡ n) × (length changes.old ≡ n) }
-    ensures { Moved
-        (lent_changes matrix.now (length before.now) n before.now after.now)
-        rows.new changes.new }
-{
-    let mut keys = [0.0f64; 4096];
-    let mut room = [0u32; 4096];
-    let mut counts = [0u32; 2048];
-    list_changes(
-        matrix,
-        n,
-        before,
-        after,
-        rows,
-        changes,
-        &mut keys[..n],
-        &mut room[..n],
-        &mut counts[..],
-        again,
-    );
-}
-
-// The same, with arrays of its own to work in: they are cleared at each call, and so are no longer than the rows ask for.
+// The same of any number of rows: arrays are cleared at each call, and so are no longer than the rows ask for, up to 56 KiB.
 fn list_in_room(
     matrix: &[f64],
     n: usize,
@@ -183,18 +86,14 @@ fn list_in_room(
         rows.new changes.new }
 {
     if n <= 16 {
-        list_least(matrix, n, before, after, rows, changes, again);
-        return;
+        list_within::<16, 0>(matrix, n, before, after, rows, changes, again);
+    } else if n <= 64 {
+        list_within::<64, 0>(matrix, n, before, after, rows, changes, again);
+    } else if n < 256 {
+        list_within::<256, 0>(matrix, n, before, after, rows, changes, again);
+    } else {
+        list_within::<4096, 2048>(matrix, n, before, after, rows, changes, again);
     }
-    if n <= 64 {
-        list_few(matrix, n, before, after, rows, changes, again);
-        return;
-    }
-    if n < 256 {
-        list_more(matrix, n, before, after, rows, changes, again);
-        return;
-    }
-    list_any(matrix, n, before, after, rows, changes, again);
 }
 
 // Lists, or refuses.
@@ -207,16 +106,13 @@ fn list_or_refuse(
     rows: &mut [u32],
     changes: &mut [f64],
     again: bool,
-) -> u64
+) -> Result<(), Refusal>
     ensures { Listed matrix.now m n before.now after.now rows.old
-        changes.old result rows.new changes.new }
+        changes.old (number_in result) rows.new changes.new }
 {
-    let number = moved_fault(matrix, m, n, before, after, rows.len(), changes.len());
-    if number != 0 {
-        return number;
-    }
+    moved_fault(matrix, m, n, before, after, rows.len(), changes.len())?;
     list_in_room(matrix, n, before, after, rows, changes, again);
-    number
+    Ok(())
 }
 
 // The change of every row when the weights `before` are replaced by `after`, by magnitude falling, ties to the smaller row: the rows, and
@@ -233,7 +129,7 @@ pub fn moved(
     ensures { Listed matrix.now m n before.now after.now rows.old
         changes.old result rows.new changes.new }
 {
-    list_or_refuse(matrix, m, n, before, after, rows, changes, false)
+    number_in(list_or_refuse(matrix, m, n, before, after, rows, changes, false))
 }
 
 // The same list, brought up to date: faster where rows still are nearly in order, and the same whatever the lists held.
@@ -249,5 +145,5 @@ pub fn moved_again(
     ensures { Listed matrix.now m n before.now after.now rows.old
         changes.old result rows.new changes.new }
 {
-    list_or_refuse(matrix, m, n, before, after, rows, changes, true)
+    number_in(list_or_refuse(matrix, m, n, before, after, rows, changes, true))
 }

@@ -1,5 +1,5 @@
--- What a colouring from bits is refused for, test by test, and what holds of the arguments of one that is not: the sizes fit, and no spare bit is set.
-use borrow.Author.Tests.{eqb-true, not-false, eq-eqb, ne_eqb}
+-- What holds of the arguments of a colouring from bits that is not refused: the sizes fit.
+use borrow.Author.Tests.{eqb-true, not-false}
 use Prim.Native.Nat.{ℕ, ◌+◌, ◌*◌, ◌≤◌}
 use mathlib.Core.Path.{◌≡◌, refl}
 use mathlib.Core.Bool.{Bool, true, false, not, ◌||◌}
@@ -47,28 +47,3 @@ module _ (bits : List ℕ) (m n output numbers indices : ℕ) where
         floats = omega arith;
         words = omega arith;
       }
-
-  -- the number on each way out: 3, 4 of the bytes, 4 of the output, 6, and then the spare bits decide
-  pub too_large-bits : too_large m n ≡ true → 3 ≡ bits_coloring_fault bits m n output numbers indices
-  unfolding bits_coloring_fault
-  too_large-bits e = rw e
-
-  module _ (fit : too_large m n ≡ false) where
-    pub other_bytes : (length bits ≡ m * bytes_of n → ⊥) → 4 ≡ bits_coloring_fault bits m n output numbers indices
-    unfolding bits_coloring_fault
-    other_bytes h = rw (fit, ne_eqb (length bits) (m * bytes_of n) h)
-
-    module _ (area : length bits ≡ m * bytes_of n) where
-      pub other_output : (output ≡ m → ⊥) → 4 ≡ bits_coloring_fault bits m n output numbers indices
-      unfolding bits_coloring_fault
-      other_output h = rw (fit, eq-eqb (length bits) (m * bytes_of n) area, ne_eqb output m h)
-
-      module _ (colours : output ≡ m) where
-        pub scratch_lacks : scratch_short m n numbers indices ≡ true → 6 ≡ bits_coloring_fault bits m n output numbers indices
-        unfolding bits_coloring_fault
-        scratch_lacks h = rw (fit, eq-eqb (length bits) (m * bytes_of n) area, eq-eqb output m colours, h)
-
-        pub spare_decides : scratch_short m n numbers indices ≡ false → (clear : Bool) → clear ≡ spare_clear bits m n
-            → pick clear 0 15 ≡ bits_coloring_fault bits m n output numbers indices
-        unfolding bits_coloring_fault
-        spare_decides h clear e = rw (fit, eq-eqb (length bits) (m * bytes_of n) area, eq-eqb output m colours, h, e)

@@ -1,16 +1,14 @@
 -- What is read of m columns of n bits, with no doubles beside them, is what the doubles that they stand for have: so is a colouring, a change and a count.
-use Prim.Native.Nat.{ℕ, zero, suc, ◌*◌, ◌≤◌, ◌<◌}
-use mathlib.Core.Path.{◌≡◌, sym, ◌∙◌}
+use Prim.Native.Nat.{ℕ, ◌*◌}
+use mathlib.Core.Path.{◌≡◌}
 use mathlib.Core.List.{List, []}
-use native.Mathlib.Nat.{mul-le-mul}
-use native.Mathlib.Omega.{arith}
 use lib.ListN.{length}
 use lib.Ieee.{Float}
 use Rattle.seq.specs.Sums.{plus_zero}
 use Rattle.draw.specs.declared.SplitMix64.{SplitMix64}
 use Rattle.limits.specs.Matrix.{columns_of}
 use Rattle.limits.specs.Votes.{bytes_of, expanded}
-use Rattle.limits.specs.Reading.{read_of, Whole}
+use Rattle.limits.specs.Reading.{read_of}
 use Rattle.limits.proofs.ReadsAs.{reads_expanded}
 use Rattle.colored.specs.Coloring.{coloring_of}
 use Rattle.colored.proofs.SameColumns.{coloring_same}

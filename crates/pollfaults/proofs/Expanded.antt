@@ -1,20 +1,16 @@
 -- Every answer from bits is that from the doubles that they stand for: the change, the count, and the colouring with all that it leaves.
 use borrow.Author.Tests.{eqb-true, eq-eqb}
-use Prim.Native.Nat.{ℕ, ◌+◌, ◌*◌, ◌/◌, ◌%◌, ◌<◌}
+use Prim.Native.Nat.{ℕ, ◌*◌}
 use mathlib.Core.Path.{◌≡◌, refl, sym, ◌∙◌}
 use mathlib.Core.Bool.{Bool, true, false}
 use mathlib.Core.List.{List}
 use lib.Dec.{eqb}
 use lib.IntN.{ℤ, pos}
 use lib.ListN.{length}
-use lib.Ieee.{Float, nan, fin, of_bits, le, lt, eq}
+use lib.Ieee.{Float, fin, of_bits, le, lt, eq}
 use Rattle.seq.specs.Choice.{pick, or_else}
-use Rattle.seq.specs.Sums.{at}
-use Rattle.seq.proofs.Every.{every_holds}
-use Rattle.seq.proofs.Filling.{get_or-tab}
 use Rattle.ieee.specs.Magnitude.{abs_of}
-use Rattle.limits.specs.Limits.{bounded}
-use Rattle.limits.specs.Votes.{bytes_of, bit_at, votes_of, spare_clear, expanded}
+use Rattle.limits.specs.Votes.{bytes_of, spare_clear, expanded}
 use Rattle.limits.proofs.ReadsAs.{length-expanded, expanded-bounded}
 use Rattle.colorfaults.specs.Discrepancy.{most_entry, coloring_fault, DiscrepancyColored}
 use Rattle.colorfaults.specs.declared.Colored.{Colored}

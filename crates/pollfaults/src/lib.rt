@@ -1,13 +1,28 @@
 // The tests of a colouring, a change and turned words on bits, and what they answer.
 #![tactic(auto)]
 
-ghost use Rattle.std.specs.Prelude.{◌≡◌};
+ghost use Rattle.std.specs.Prelude.{◌≡◌, ◌≤◌, ◌*◌, length};
+ghost use Rattle.limits.specs.Votes.{bytes_of, spare_fault};
+ghost use Rattle.refusal.specs.Refusals.{number_in};
 ghost use Rattle.pollfaults.specs.Polls.{bits_coloring_fault, poll_fault, bits_turned_fault};
 
 use limits::{all_finite, scratch_short, too_large};
+use refusal::Refusal;
 use spare::spare_clear;
 
-// What a colouring is refused for, or 0.
+// 15 where a spare bit is set.
+pub fn spare_fault(bits: &[u8], m: usize, n: usize) -> Result<(), Refusal>
+    requires { (m ≤ 256) × (n ≤ 4096) × (length bits.now ≡ m * bytes_of n) }
+    ensures { number_in result ≡ spare_fault bits.now m n }
+{
+    if !spare_clear(bits, m, n) {
+        return Err(Refusal::SpareBit);
+    }
+    Ok(())
+}
+
+// What a colouring is refused for.
+#[tactic(auto, unfolding(crate::specs::Polls::bits_coloring_fault))]
 pub fn bits_coloring_fault(
     bits: &[u8],
     m: usize,
@@ -15,41 +30,42 @@ pub fn bits_coloring_fault(
     output: usize,
     numbers: usize,
     indices: usize,
-) -> u64
-    ensures { result ≡ bits_coloring_fault bits.now m n output numbers indices }
+) -> Result<(), Refusal>
+    ensures { number_in result ≡ bits_coloring_fault bits.now m n output numbers indices }
 {
     if too_large(m, n) {
-        return 3;
+        return Err(Refusal::Size);
     }
-    if bits.len() != m * ((n + 7) / 8) {
-        return 4;
-    }
-    if output != m {
-        return 4;
+    if bits.len() != m * ((n + 7) / 8) || output != m {
+        return Err(Refusal::Length);
     }
     if scratch_short(m, n, numbers, indices) {
-        return 6;
+        return Err(Refusal::Scratch);
     }
-    if spare_clear(bits, m, n) { 0 } else { 15 }
+    spare_fault(bits, m, n)
 }
 
-// 3 or 4, or 0.
-pub fn poll_fault(bits: &[u8], m: usize, n: usize, before: &[f64], after: &[f64]) -> u64
-    ensures { result ≡ poll_fault bits.now m n before.now after.now }
+// 3 or 4, of the sizes.
+#[tactic(auto, unfolding(crate::specs::Polls::poll_fault))]
+pub fn poll_fault(
+    bits: &[u8],
+    m: usize,
+    n: usize,
+    before: &[f64],
+    after: &[f64],
+) -> Result<(), Refusal>
+    ensures { number_in result ≡ poll_fault bits.now m n before.now after.now }
 {
     if too_large(m, n) {
-        return 3;
+        return Err(Refusal::Size);
     }
-    if bits.len() != m * ((n + 7) / 8) {
-        return 4;
+    if bits.len() != m * ((n + 7) / 8) || before.len() != m || after.len() != m {
+        return Err(Refusal::Length);
     }
-    if before.len() != m {
-        return 4;
-    }
-    if after.len() != m { 4 } else { 0 }
+    Ok(())
 }
 
-// What a count of turned words is refused for, or 0.
+// What a count of turned words is refused for.
 pub fn bits_turned_fault(
     bits: &[u8],
     m: usize,
@@ -57,18 +73,16 @@ pub fn bits_turned_fault(
     before: &[f64],
     after: &[f64],
     thresholds: &[f64],
-) -> u64
-    ensures { result ≡ bits_turned_fault bits.now m n before.now after.now thresholds.now }
+) -> Result<(), Refusal>
+    ensures { number_in result ≡ bits_turned_fault bits.now m n before.now after.now thresholds.now }
 {
-    let number = poll_fault(bits, m, n, before, after);
-    if number != 0 {
-        return number;
-    }
+    poll_fault(bits, m, n, before, after)?;
     if thresholds.len() != n {
-        return 4;
+        return Err(Refusal::Length);
     }
-    if !spare_clear(bits, m, n) {
-        return 15;
+    spare_fault(bits, m, n)?;
+    if !all_finite(thresholds) {
+        return Err(Refusal::Weight);
     }
-    if all_finite(thresholds) { 0 } else { 8 }
+    Ok(())
 }

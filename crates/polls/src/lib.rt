@@ -3,15 +3,16 @@
 #![tactic(auto)]
 
 ghost use Rattle.std.specs.Prelude.{◌≡◌};
-ghost use Rattle.pollfaults.specs.Polls.{BitsColored, bits_change, bits_turned};
+ghost use Rattle.refusal.specs.Refusals.{number_in};
+ghost use Rattle.pollfaults.specs.Polls.{BitsColored, bits_change_fault, bits_change, bits_turned};
 
 use change::change_of;
 use colorfaults::{Colored, write_colours};
 use discrepancy::color_all;
 use margins::{Change, Turned};
-use pollfaults::{bits_coloring_fault, bits_turned_fault, poll_fault};
+use pollfaults::{bits_coloring_fault, bits_turned_fault, poll_fault, spare_fault};
+use refusal::Refusal;
 use seq::fill;
-use spare::spare_clear;
 use turned::turned_of;
 
 // Colours the m columns of n votes, 1 or -1 each, so that every row's sum is small. A refusal changes nothing, and has zeros beside its
@@ -28,10 +29,16 @@ pub fn discrepancy_coloring_bits(
     ensures { BitsColored bits.now m n seed output.old numbers.old
         indices.old result output.new numbers.new indices.new }
 {
-    let number = bits_coloring_fault(bits, m, n, output.len(), numbers.len(), indices.len());
-    if number != 0 {
+    if let Err(refusal) = bits_coloring_fault(
+        bits,
+        m,
+        n,
+        output.len(),
+        numbers.len(),
+        indices.len(),
+    ) {
         return Colored {
-            number,
+            number: refusal.number(),
             directions: 0,
             sweeps: 0,
         };
@@ -58,6 +65,20 @@ pub fn discrepancy_coloring_bits(
     }
 }
 
+// What a change is refused for.
+fn change_fault(
+    bits: &[u8],
+    m: usize,
+    n: usize,
+    before: &[f64],
+    after: &[f64],
+) -> Result<(), Refusal>
+    ensures { number_in result ≡ bits_change_fault bits.now m n before.now after.now }
+{
+    poll_fault(bits, m, n, before, after)?;
+    spare_fault(bits, m, n)
+}
+
 // The largest change of any margin when the weights `before` are replaced by `after`, from bits.
 pub fn max_margin_change_bits(
     bits: &[u8],
@@ -68,22 +89,15 @@ pub fn max_margin_change_bits(
 ) -> Change
     ensures { result ≡ bits_change bits.now m n before.now after.now }
 {
-    let number = poll_fault(bits, m, n, before, after);
-    if number != 0 {
+    if let Err(refusal) = change_fault(bits, m, n, before, after) {
         return Change {
-            number,
-            change: 0.0,
-        };
-    }
-    if !spare_clear(bits, m, n) {
-        return Change {
-            number: 15,
+            number: refusal.number(),
             change: 0.0,
         };
     }
     let none = [0.0f64; 0];
     Change {
-        number,
+        number: 0,
         change: change_of(&none[..], bits, n, before, after),
     }
 }
@@ -99,9 +113,11 @@ pub fn turned_words_bits(
 ) -> Turned
     ensures { result ≡ bits_turned bits.now m n before.now after.now thresholds.now }
 {
-    let number = bits_turned_fault(bits, m, n, before, after, thresholds);
-    if number != 0 {
-        return Turned { number, count: 0 };
+    if let Err(refusal) = bits_turned_fault(bits, m, n, before, after, thresholds) {
+        return Turned {
+            number: refusal.number(),
+            count: 0,
+        };
     }
     let none = [0.0f64; 0];
     Turned {

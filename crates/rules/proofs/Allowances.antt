@@ -1,5 +1,5 @@
 -- The largest finite allowance is good, and an infinite one is refused by 12 whatever its cap.
-use Rattle.std.specs.Prelude.{Option}
+use Rattle.std.specs.Prelude.{ℕ, Option}
 use mathlib.Core.Path.{◌≡◌, refl}
 use lib.Ieee.{binary64, of_bits, le, lt, eq}
 use Rattle.rules.specs.Rules.{cap_fault, rule_fault}

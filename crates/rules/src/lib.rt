@@ -3,19 +3,14 @@
 #![tactic(auto)]
 
 ghost use Rattle.std.specs.Prelude.{◌≡◌};
+ghost use Rattle.refusal.specs.Refusals.{number_in};
 ghost use Rattle.rules.specs.Rules.{cap_fault, rule_fault, meets};
 ghost use Rattle.rules.specs.declared.Rule.TheVariants.{Within};
 
 use ieee::is_finite;
+use refusal::Refusal;
 
-// How many nonzero entries are allowed, if that is said.
-#[derive(Clone, Copy)]
-pub enum Cap {
-    Absent,
-    AtMost(usize),
-}
-
-// When a job stops: at so many nonzero entries, or before a change above the allowance.
+// When a job stops: at so many nonzero entries, or before a change above the allowance, where a cap may say how many entries are allowed.
 #[derive(Clone, Copy)]
 pub enum Rule {
     Target(usize),
@@ -23,34 +18,35 @@ pub enum Rule {
 }
 
 // 2 where the cap is 0.
-fn cap_fault(cap: Option<usize>) -> u64
-    ensures { result ≡ cap_fault cap }
+fn cap_fault(cap: Option<usize>) -> Result<(), Refusal>
+    ensures { number_in result ≡ cap_fault cap }
 {
     match cap {
-        None => 0,
-        Some(c) => { if c == 0 { 2 } else { 0 } }
+        Some(0) => Err(Refusal::Zero),
+        _ => Ok(()),
     }
 }
 
 // 1, 12 or 2, of an allowance and a cap.
-fn within_fault(allowance: f64, cap: Option<usize>) -> u64
-    ensures { result ≡ rule_fault (Within allowance cap) }
+fn within_fault(allowance: f64, cap: Option<usize>) -> Result<(), Refusal>
+    ensures { number_in result ≡ rule_fault (Within allowance cap) }
 {
     if !(allowance >= 0.0) {
-        return 1;
+        return Err(Refusal::Allowance);
     }
     if !is_finite(allowance) {
-        return 12;
+        return Err(Refusal::InfiniteAllowance);
     }
     cap_fault(cap)
 }
 
 // The same of a rule, 2 also for its target.
-pub fn rule_fault(rule: Rule) -> u64
-    ensures { result ≡ rule_fault rule }
+pub fn rule_fault(rule: Rule) -> Result<(), Refusal>
+    ensures { number_in result ≡ rule_fault rule }
 {
     match rule {
-        Rule::Target(t) => { if t == 0 { 2 } else { 0 } }
+        Rule::Target(0) => Err(Refusal::Zero),
+        Rule::Target(_) => Ok(()),
         Rule::Within { allowance, cap } => within_fault(allowance, cap),
     }
 }

@@ -27,7 +27,7 @@ use totarget::to_target;
 use weights::normalize;
 
 // A seed, the edition of its draws, 1 or 2, and a rule.
-#[derive(Drop)]
+#[derive(Clone, Copy)]
 pub struct Job {
     pub seed: u64,
     pub edition: u32,
@@ -150,7 +150,7 @@ pub fn thin(
         numbers.old indices.old result output.new numbers.new indices.new }
 {
     let rule = job.rule;
-    let number = job_fault(
+    if let Err(refusal) = job_fault(
         rule,
         job.edition,
         matrix,
@@ -160,9 +160,8 @@ pub fn thin(
         output.len(),
         numbers.len(),
         indices.len(),
-    );
-    if number != 0 {
-        return refused(number);
+    ) {
+        return refused(refusal.number());
     }
     let none = [0u8; 0];
     let mut start = [0.0f64; 256];

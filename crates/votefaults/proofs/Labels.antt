@@ -1,31 +1,29 @@
--- A label's bits, as the code compares them, and the label.
-use Prim.Native.Nat.{ℕ, zero, suc, ◌-◌, ◌<◌}
-use mathlib.Core.Path.{◌≡◌, refl, ◌∙◌}
-use mathlib.Core.Bool.{Bool, true, false, ◌||◌}
-use native.Mathlib.Omega.{arith}
-use borrow.Author.Tests.{eq-eqb, ne_eqb}
-use lib.IntN.{ℤ, pos, negsuc}
-use lib.Dec.{eqb}
-use mir.Syntax.{w8}
-use mir.Val.{SFits, of_z}
-use Rattle.votefaults.specs.Votes.{is_label}
+-- A test of each label of a list is that of all.
+use Prim.Native.Nat.{ℕ, zero, suc}
+use mathlib.Core.Path.{◌≡◌, refl, ap, ◌∙◌}
+use mathlib.Core.Bool.{Bool, true, false, ◌&&◌}
+use mathlib.Core.List.{List, [], ◌∷◌}
+use lib.IntN.{ℤ, pos}
+use lib.ListN.{length, get_or}
+use Rattle.std.specs.List.{list_all}
+use Rattle.seq.specs.Keep.{all_to}
+use Rattle.votefaults.specs.Votes.{is_label, all_labels}
 
-nothing_else : (t : Bool) → (t || false) ≡ t
-nothing_else true = refl
-nothing_else false = refl
+both-assoc : (a b c : Bool) → ((a && b) && c) ≡ (a && (b && c))
+both-assoc true b c = refl
+both-assoc false b c = refl
 
-plus : (k : ℕ) → k < 128 → (eqb k 1 || eqb k 255) ≡ eqb k 1
-plus k h = rw (ne_eqb k 255 (λ e. absurd (omega arith))) (nothing_else (eqb k 1))
+both-true : (a : Bool) → a ≡ (a && true)
+both-true true = refl
+both-true false = refl
 
-minus : (k : ℕ) → k < 128 → (eqb (256 - suc k) 1 || eqb (256 - suc k) 255) ≡ eqb k 0
-minus zero h = refl
-minus (suc k) h =
-    rw (
-      ne_eqb (256 - suc (suc k)) 1 (λ e. absurd (omega arith)),
-      ne_eqb (256 - suc (suc k)) 255 (λ e. absurd (omega arith)),
-      ne_eqb (suc k) 0 (λ e. absurd (omega arith)),
-    )
+-- the first of them apart
+first_apart : (f : ℕ → Bool) (k : ℕ) → all_to f (suc k) ≡ (f 0 && all_to (λ j. f (suc j)) k)
+unfolding all_to
+first_apart f zero = both-true (f 0)
+first_apart f (suc k) = ap (λ (t : Bool). t && f (suc k)) (first_apart f k) ∙ both-assoc (f 0) (all_to (λ j. f (suc j)) k) (f (suc k))
 
-pub label_bits : (y : ℤ) → SFits w8 y → (eqb (of_z w8 y) 1 || eqb (of_z w8 y) 255) ≡ is_label y
-label_bits (pos k) h = plus k h.sfits
-label_bits (negsuc k) h = minus k h.sfits
+pub each_label : (labels : List ℤ) → list_all is_label labels ≡ all_labels labels
+unfolding all_to
+each_label [] = refl
+each_label (y ∷ ys) = rw (each_label ys, first_apart (λ i. is_label (get_or (y ∷ ys) i (pos 0))) (length ys)) refl

@@ -1,4 +1,4 @@
--- What a call on votes is refused for, test by test, and what it leaves: refused, or with what thinning the confidences returns, packed.
+-- What a call on votes has that is not refused, and what one leaves: refused, or with what thinning the confidences returns, packed.
 use Prim.Native.Nat.{ℕ, ◌<◌, ◌≤◌}
 use mathlib.Core.Path.{◌≡◌, refl, sym, ap, ◌∙◌}
 use mathlib.Core.Bool.{Bool, true, false, ◌&&◌}
@@ -20,7 +20,7 @@ use Rattle.rules.specs.declared.Rule.{Rule}
 use Rattle.faults.specs.Faults.{edition_fault, size_fault, value_fault, job_fault}
 use Rattle.answers.specs.Answers.{refusal, answer_of, returned, Thinned}
 use Rattle.answers.specs.declared.Answer.{Answer}
-use Rattle.faults.proofs.Whole.{no_fault}
+use Rattle.refusal.proofs.Reasons.{no_fault}
 use Rattle.answers.proofs.Accepting.{Sized, sizes-good, output-stage}
 use Rattle.halved.specs.Halve.{Halved}
 use Rattle.packing.specs.Packed.{packed_columns, packed_weights, Packed}
@@ -30,15 +30,6 @@ use Rattle.votefaults.proofs.Margins.{answer_same, returned_same}
 -- ---- the sizes
 
 module _ (m n confidences labels weights columns kept numbers indices : ℕ) where
-  pub lists_whole : (eqb labels n && eqb kept m) ≡ true → size_fault m n confidences weights columns numbers indices
-      ≡ list_fault m n confidences labels weights columns kept numbers indices
-  unfolding list_fault
-  lists_whole e = sym (rw e)
-
-  pub lists_wrong : (eqb labels n && eqb kept m) ≡ false → pick (too_large m n) 3 4 ≡ list_fault m n confidences labels weights columns kept numbers indices
-  unfolding list_fault
-  lists_wrong e = sym (rw e)
-
   -- without a fault every list has its length
   pub lists_good : list_fault m n confidences labels weights columns kept numbers indices ≡ 0
       → (labels ≡ n) × ((kept ≡ m) × (size_fault m n confidences weights columns numbers indices ≡ 0))
@@ -56,34 +47,7 @@ module _ (m n confidences labels weights columns kept numbers indices : ℕ) whe
 
 -- ---- what is tested before the values
 
-module _ (rule : Rule) (edition confidences : ℕ) (labels : List ℤ) (m n weights columns kept numbers indices : ℕ) where
-  abbrev found : ℕ
-  found = call_fault rule edition confidences labels m n weights columns kept numbers indices
-
-  module _ {first : ℕ} (e : first ≡ rule_fault rule) where
-    pub rule_refused : (first ≡ 0 → ⊥) → first ≡ found
-    unfolding call_fault
-    rule_refused h = rw (← e, ne_eqb first 0 h)
-
-    module _ (z : first ≡ 0) {second : ℕ} (f : second ≡ edition_fault edition) where
-      pub edition_refused : (second ≡ 0 → ⊥) → second ≡ found
-      unfolding call_fault
-      edition_refused h = rw (← e, eq-eqb first 0 z, ← f, ne_eqb second 0 h)
-
-      module _ (y : second ≡ 0) {third : ℕ} (g : third ≡ list_fault m n confidences (length labels) weights columns kept numbers indices) where
-        pub lists_refused : (third ≡ 0 → ⊥) → third ≡ found
-        unfolding call_fault
-        lists_refused h = rw (← e, eq-eqb first 0 z, ← f, eq-eqb second 0 y, ← g, ne_eqb third 0 h)
-
-        pub labels_fine : third ≡ 0 → all_labels labels ≡ true → 0 ≡ found
-        unfolding call_fault
-        labels_fine x h = rw (← e, eq-eqb first 0 z, ← f, eq-eqb second 0 y, ← g, eq-eqb third 0 x, h)
-
-        pub label_refused : third ≡ 0 → all_labels labels ≡ false → 14 ≡ found
-        unfolding call_fault
-        label_refused x h = rw (← e, eq-eqb first 0 z, ← f, eq-eqb second 0 y, ← g, eq-eqb third 0 x, h)
-
--- what a call has that passes them
+-- what a call has that passes
 pub record Called (rule : Rule) (edition : ℕ) (labels : List ℤ) (m n confidences weights columns kept numbers indices : ℕ) : Type 0 where
   pub ruled : rule_fault rule ≡ 0
   pub drawn : edition_fault edition ≡ 0

@@ -2,42 +2,30 @@
 #![tactic(auto)]
 
 ghost use Rattle.std.specs.Prelude.{◌≡◌};
-ghost use Rattle.seq.specs.Choice.{pick};
-ghost use Rattle.limits.specs.Limits.{too_large};
+ghost use Rattle.refusal.specs.Refusals.{number_in};
 ghost use Rattle.votefaults.specs.Votes.{is_label, all_labels, list_fault, call_fault};
 
 use faults::{edition_fault, size_fault};
 use limits::too_large;
+use refusal::Refusal;
 use rules::{Rule, rule_fault};
 
 // Whether a label is 1 or -1.
 fn is_label(y: i8) -> bool
     ensures { result ≡ is_label y }
 {
-    (y == 1) | (y == -1)
+    y == 1 || y == -1
 }
 
 // Whether every label is.
 fn all_labels(labels: &[i8]) -> bool
     ensures { result ≡ all_labels labels.now }
 {
-    let mut ok = true;
-    let mut i = 0usize;
-    while i < labels.len() {
-        ok = ok & is_label(labels[i]);
-        i += 1;
-    }
-    ok
-}
-
-// 3 where the sizes are too large, and 4 for a list of another length.
-fn length_fault(m: usize, n: usize) -> u64
-    ensures { result ≡ pick (too_large m n) 3 4 }
-{
-    if too_large(m, n) { 3 } else { 4 }
+    labels.iter().all(|y| is_label(*y))
 }
 
 // 3 to 6, of the sizes.
+#[tactic(auto, unfolding(crate::specs::Votes::list_fault))]
 fn list_fault(
     m: usize,
     n: usize,
@@ -48,17 +36,20 @@ fn list_fault(
     kept: usize,
     numbers: usize,
     indices: usize,
-) -> u64
-    ensures { result ≡ list_fault m n confidences labels weights columns kept numbers indices }
+) -> Result<(), Refusal>
+    ensures { number_in result ≡ list_fault m n confidences labels weights columns kept numbers indices }
 {
-    let whole = (labels == n) & (kept == m);
-    if whole {
+    if labels == n && kept == m {
         return size_fault(m, n, confidences, weights, columns, numbers, indices);
     }
-    length_fault(m, n)
+    if too_large(m, n) {
+        return Err(Refusal::Size);
+    }
+    Err(Refusal::Length)
 }
 
 // What is tested before the values: the rule, the edition, the sizes, and the labels.
+#[tactic(auto, unfolding(crate::specs::Votes::call_fault))]
 pub fn call_fault(
     rule: Rule,
     edition: u32,
@@ -71,18 +62,12 @@ pub fn call_fault(
     kept: usize,
     numbers: usize,
     indices: usize,
-) -> u64
-    ensures { result ≡ call_fault rule edition confidences labels.now m n weights columns kept numbers indices }
+) -> Result<(), Refusal>
+    ensures { number_in result ≡ call_fault rule edition confidences labels.now m n weights columns kept numbers indices }
 {
-    let first = rule_fault(rule);
-    if first != 0 {
-        return first;
-    }
-    let second = edition_fault(edition);
-    if second != 0 {
-        return second;
-    }
-    let third = list_fault(
+    rule_fault(rule)?;
+    edition_fault(edition)?;
+    list_fault(
         m,
         n,
         confidences,
@@ -92,9 +77,9 @@ pub fn call_fault(
         kept,
         numbers,
         indices,
-    );
-    if third != 0 {
-        return third;
+    )?;
+    if !all_labels(labels) {
+        return Err(Refusal::Label);
     }
-    if all_labels(labels) { 0 } else { 14 }
+    Ok(())
 }

@@ -28,7 +28,7 @@ pub fn thin_votes(
         columns.new kept.new numbers.new indices.new }
 {
     let rule = job.rule;
-    let number = call_fault(
+    if let Err(refusal) = call_fault(
         rule,
         job.edition,
         confidences.len(),
@@ -40,9 +40,8 @@ pub fn thin_votes(
         kept.len(),
         numbers.len(),
         indices.len(),
-    );
-    if number != 0 {
-        return refused(number);
+    ) {
+        return refused(refusal.number());
     }
     let mut output = [0.0f64; 256];
     let answer = thin(

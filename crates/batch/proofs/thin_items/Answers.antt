@@ -1,5 +1,4 @@
 -- `batch::thin_items` meets its contract: after i items the first i have their answers and their parts of the output, and the scratch is zero.
-use borrow.Author.Rules.{rules}
 use Prim.Native.Nat.{◌-◌, ◌*◌}
 use mathlib.Core.Path.{refl}
 use native.Mathlib.Omega.{arith}
@@ -60,8 +59,8 @@ slice_bounds-thin_item-end-in-loop-i c =
     let inv = c.loop-i.invariant in
     omega (arith, output_inside inv.0 c.loop-i.i c.loop-i-test.true, output-kept inv.0 inv.1)
 
-pub thin_item-answer-requires : goal.thin_item-answer-requires
-thin_item-answer-requires c =
+pub thin_item-requires : goal.thin_item-requires
+thin_item-requires c =
     let inv = c.loop-i.invariant in
     let m = c.args.m in
     (c.requires.0, parts_sized inv.0 inv.1 c.loop-i-test.true _ (span (c.loop-i.i * m) m), inv.0.entries)
@@ -74,17 +73,13 @@ pub bounds-answers-i : goal.bounds-answers-i
 bounds-answers-i c =
     omega (arith, c.loop-i.invariant.0.sized.few, c.loop-i-test.true)
 
-pub overflow_add-i : goal.overflow_add-i
-overflow_add-i c =
-    omega (arith, c.loop-i.invariant.0.sized.few, c.loop-i-test.true)
-
 pub loop-i-preserved : goal.loop-i-preserved
 loop-i-preserved c =
     let inv = c.loop-i.invariant in
     let a = c.args in (
       inv.0,
       upto-more inv.0 inv.1 c.loop-i-test.true (span (c.loop-i.i * a.m) a.m) c.new.ensures
-          c.named_rule.ensures c.thin_item-answer.ensures refl refl,
+          c.named_rule.ensures c.thin_item.ensures refl refl,
     )
 
 pub shape_of-output : goal.shape_of-output

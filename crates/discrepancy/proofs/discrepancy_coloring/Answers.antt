@@ -4,25 +4,26 @@ use lib.Seq.{length-take-le}
 use Rattle.colorfaults.proofs.Accepted.{accepted}
 use Rattle.colorfaults.proofs.Fronts.{front_back, back_long}
 use Rattle.colorfaults.proofs.Outcomes.{refused, colours_at, coloured}
+use Rattle.refusal.proofs.Reasons.{given}
 use mathlib.Core.Path.{sym, ◌∙◌}
 use mathlib.Core.List.{List}
 use native.Mathlib.Omega.{arith}
 use lib.Ieee.{Float}
 use Rattle.discrepancy.proofs.discrepancy_coloring.Goals as goal
 
-pub returns-then-number-ne0 : goal.returns-then-number-ne0
-returns-then-number-ne0 c = refused _ _ _ _ _ _ _ _ c.coloring_fault-number.ensures c.if-number-ne0.true
+pub returns-in-Err : goal.returns-in-Err
+returns-in-Err c = refused _ _ _ _ _ _ _ _ (c.number.ensures ∙ c.in-Err.ensures) (given _ _ c.number.ensures)
 
 pub slice_bounds-x-end : goal.slice_bounds-x-end
-slice_bounds-x-end c = (accepted _ _ _ _ _ _ (sym c.coloring_fault-number.ensures ∙ c.if-number-ne0.false)).columns
+slice_bounds-x-end c = (accepted _ _ _ _ _ _ (sym c.in_default.ensures)).columns
 
 pub slice_bounds-color_all-end-2 : goal.slice_bounds-color_all-end-2
 slice_bounds-color_all-end-2 c =
-    sym (length-take-le _ _ (accepted _ _ _ _ _ _ (sym c.coloring_fault-number.ensures ∙ c.if-number-ne0.false)).columns)
+    sym (length-take-le _ _ (accepted _ _ _ _ _ _ (sym c.in_default.ensures)).columns)
 
 pub color_all-c-requires : goal.color_all-c-requires
 color_all-c-requires c =
-    let a = accepted _ _ _ _ _ _ (sym c.coloring_fault-number.ensures ∙ c.if-number-ne0.false) in
+    let a = accepted _ _ _ _ _ _ (sym c.in_default.ensures) in
     record {
       whole = record { doubles = λ e. a.area; votes = λ h. absurd (omega arith) };
       columns = a.columns;
@@ -36,7 +37,7 @@ color_all-c-requires c =
 pub slice_bounds-x-end-2 : goal.slice_bounds-x-end-2
 slice_bounds-x-end-2 c =
     back_long _ c.color_all-c.new.x _
-    (accepted _ _ _ _ _ _ (sym c.coloring_fault-number.ensures ∙ c.if-number-ne0.false)).columns
+    (accepted _ _ _ _ _ _ (sym c.in_default.ensures)).columns
     c.color_all-c.auto.x
 
 pub slice_bounds-write_colours-end : goal.slice_bounds-write_colours-end
@@ -44,18 +45,18 @@ slice_bounds-write_colours-end c =
     sym
     (length-take-le _ _
     (back_long _ c.color_all-c.new.x _
-    (accepted _ _ _ _ _ _ (sym c.coloring_fault-number.ensures ∙ c.if-number-ne0.false)).columns
+    (accepted _ _ _ _ _ _ (sym c.in_default.ensures)).columns
     c.color_all-c.auto.x))
 
 pub write_colours-requires : goal.write_colours-requires
 write_colours-requires c =
-    let a = accepted _ _ _ _ _ _ (sym c.coloring_fault-number.ensures ∙ c.if-number-ne0.false) in
+    let a = accepted _ _ _ _ _ _ (sym c.in_default.ensures) in
     a.colours ∙ sym (length-take-le _ _ (back_long _ c.color_all-c.new.x _ a.columns
     c.color_all-c.auto.x))
 
 pub returns : goal.returns
 returns c =
-    let e = sym c.coloring_fault-number.ensures ∙ c.if-number-ne0.false in
+    let e = sym c.in_default.ensures in
     let a = accepted _ _ _ _ _ _ e in
     let x : List Float = c.color_all-c.new.x in
     let kept = c.color_all-c.auto in

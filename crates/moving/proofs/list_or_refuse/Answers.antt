@@ -1,21 +1,21 @@
 -- `moving::list_or_refuse` meets its contract: refused, or listed.
-use Rattle.moving.proofs.Listing.{refused, accepted_sizes, accepted}
+use mathlib.Core.Path.{◌≡◌}
+use lib.ListN.{length}
+use Rattle.std.proofs.Common.{rules}
+use Rattle.refusal.specs.Refusals.{number_in}
+use Rattle.movefaults.specs.Answers.{moved_fault}
+use Rattle.moving.proofs.Listing.{given_in, refused, accepted_sizes, accepted}
 use Rattle.moving.proofs.list_or_refuse.Goals as goal
 
-pub returns-then-number-ne0 : goal.returns-then-number-ne0
-returns-then-number-ne0 c =
+pub returns-in_err-moved_fault : goal.returns-in_err-moved_fault
+returns-in_err-moved_fault c =
     let a = c.args in
-    refused a.matrix.now a.m a.n a.before.now a.after.now a.rows.now a.changes.now _ c.moved_fault-number.ensures c.if-number-ne0.true
+    let r = c.from_residual in
+    let e : number_in r.result ≡ moved_fault a.matrix.now a.m a.n a.before.now a.after.now (length a.rows.now) (length a.changes.now) = search rules in
+    refused _ _ _ _ _ _ _ _ e (given_in r.result r.ensures.0)
 
 pub list_in_room-requires : goal.list_in_room-requires
-list_in_room-requires c =
-    let a = c.args in
-    accepted_sizes a.matrix.now a.m a.n a.before.now a.after.now a.rows.now a.changes.now _
-    c.moved_fault-number.ensures c.if-number-ne0.false
+list_in_room-requires c = accepted_sizes _ _ _ _ _ _ _ c.in_ok-moved_fault.ensures
 
 pub returns : goal.returns
-returns c =
-    let a = c.args in
-    accepted a.matrix.now a.m a.n a.before.now a.after.now a.rows.now a.changes.now _
-    c.moved_fault-number.ensures c.if-number-ne0.false c.list_in_room.new.rows
-    c.list_in_room.new.changes c.list_in_room.ensures
+returns c = accepted _ _ _ _ _ _ _ c.in_ok-moved_fault.ensures _ _ c.list_in_room.ensures
