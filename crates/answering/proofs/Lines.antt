@@ -2,16 +2,15 @@
 use borrow.Author.Tests.{eq-eqb, ne_eqb}
 use Prim.Native.Nat.{ℕ, zero, suc, ◌+◌, ◌*◌, ◌≤◌, ◌<◌}
 use mathlib.Core.Path.{◌≡◌, refl, sym, ◌∙◌}
-use mathlib.Core.Bool.{Bool, true, false}
+use mathlib.Core.Bool.{Bool, true, false, false≢true}
 use mathlib.Core.List.{List, [], ◌∷◌, ◌++◌, append_assoc}
 use native.Mathlib.Omega.{arith}
 use native.Mathlib.Numerals.{add-one}
 use lib.Dec.{eqb}
 use lib.ListN.{length, length-append, take-append-drop}
-use lib.Ieee.{Float, eq, binary64, to_bits}
+use lib.Ieee.{Float, binary64, to_bits, nan, inf, fin, is_nan}
 use Rattle.seq.specs.Choice.{pick}
 use Rattle.seq.specs.Sums.{at}
-use Rattle.ieee.proofs.Magnitudes.{nan_self}
 use Rattle.fields.specs.Bytes.{tab, newline}
 use Rattle.fields.specs.Texts.{bits_text, count_text, tabbed, note_text}
 use Rattle.fields.specs.Steps.{WroteOn}
@@ -23,10 +22,12 @@ use Rattle.answering.specs.Answer.{ok_line, weight_line, weight_lines, answer_te
 use Rattle.answering.specs.Steps.{Wrote}
 use Rattle.answering.proofs.Puts.{front_of, front_more}
 
--- what does not equal itself has the one pattern of a NaN
-pub nan-bits : (x : Float) → eq x x ≡ false → 0x7ff8_0000_0000_0000 ≡ to_bits binary64 x
-unfolding to_bits
-nan-bits x h = rw (nan_self x h)
+-- the NaN has one pattern
+pub nan-bits : (x : Float) → is_nan x ≡ true → 0x7ff8_0000_0000_0000 ≡ to_bits binary64 x
+unfolding to_bits is_nan
+nan-bits nan h = refl
+nan-bits (inf s) h = absurd (false≢true h)
+nan-bits (fin s m e) h = absurd (false≢true h)
 
 -- bits and a newline
 abbrev pub last : Float → List ℕ

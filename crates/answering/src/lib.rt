@@ -13,14 +13,14 @@ ghost use Rattle.answering.specs.Steps.{Wrote};
 use answers::Answer;
 use putting::{put_bits, put_note, put_tabbed, put_word};
 
-// The bits of a double; every NaN has one pattern.
+// The bits of a double; every NaN has one pattern, which `to_bits` alone does not promise.
 fn pattern(x: f64) -> u64
     ensures { result ≡ to_bits binary64 x }
 {
-    if x == x {
-        f64::to_bits(x)
-    } else {
+    if x.is_nan() {
         0x7ff8_0000_0000_0000
+    } else {
+        x.to_bits()
     }
 }
 
@@ -60,10 +60,8 @@ fn put_weights(out: &mut [u8], at: usize, w: &[f64]) -> usize
     ensures { WroteOn (weight_lines w.now (length w.now)) at out.old result out.new }
 {
     let mut end = at;
-    let mut j = 0usize;
-    while j < w.len() {
-        end = put_weight(&mut out[..], end, j, w[j]);
-        j += 1;
+    for (j, x) in w.iter().enumerate() {
+        end = put_weight(&mut out[..], end, j, *x);
     }
     end
 }

@@ -26,10 +26,8 @@ fn put_entries(out: &mut [u8], at: usize, entries: &[u64]) -> usize
         out.new }
 {
     let mut end = at;
-    let mut i = 0usize;
-    while i < entries.len() {
-        end = put_entry(&mut out[..], end, entries[i]);
-        i += 1;
+    for entry in entries {
+        end = put_entry(&mut out[..], end, *entry);
     }
     end
 }
@@ -53,11 +51,9 @@ pub fn put_columns(out: &mut [u8], at: usize, matrix: &[u64], n: usize, weights:
         (length weights.now)) at out.old result out.new }
 {
     let mut end = at;
-    let mut j = 0usize;
-    while j < weights.len() {
+    for (j, weight) in weights.iter().enumerate() {
         let start = j * n;
-        end = put_column(&mut out[..], end, weights[j], &matrix[start..start + n]);
-        j += 1;
+        end = put_column(&mut out[..], end, *weight, &matrix[start..start + n]);
     }
     end
 }

@@ -6,7 +6,7 @@ ghost use Rattle.seq.specs.Lists.{tabulate};
 ghost use Rattle.fields.specs.Fields.{bits_at};
 ghost use Rattle.form.specs.Reading.{double_at, weight_place, entry_place};
 
-use fields::bits_at;
+use fields::number;
 use head::double;
 
 // The bits of weight j of columns that begin at a place.
@@ -14,7 +14,7 @@ pub fn weight_bits(text: &[u8], start: usize, n: usize, j: usize) -> u64
     requires { (start ≤ 1000) × (n ≤ 64) × (j ≤ 32) }
     ensures { result ≡ (bits_at text.now (weight_place start n j)).value }
 {
-    bits_at(text, start + j * (21 + 17 * n) + 4).value
+    number(text, start + j * (21 + 17 * n) + 4, 16, 16)
 }
 
 // The bits of entry k of their matrix, which is of column k / n and row k % n.
@@ -23,7 +23,7 @@ pub fn entry_bits(text: &[u8], start: usize, n: usize, k: usize) -> u64
     ensures { result ≡ (bits_at text.now (entry_place start n k)).value }
 {
     let line = start + (k / n) * (21 + 17 * n) + 4;
-    bits_at(text, line + 17 + 17 * (k % n)).value
+    number(text, line + 17 + 17 * (k % n), 16, 16)
 }
 
 // Reads the weights of columns that begin at a place.
@@ -32,10 +32,8 @@ pub fn read_weights(weights: &mut [f64], text: &[u8], start: usize, n: usize)
     ensures { weights.new ≡ tabulate (λ j. double_at text.now (weight_place start n j))
         (length weights.old) }
 {
-    let mut j = 0usize;
-    while j < weights.len() {
-        weights[j] = double(weight_bits(text, start, n, j));
-        j += 1;
+    for (j, weight) in weights.iter_mut().enumerate() {
+        *weight = double(weight_bits(text, start, n, j));
     }
 }
 
@@ -45,9 +43,7 @@ pub fn read_matrix(matrix: &mut [f64], text: &[u8], start: usize, n: usize)
     ensures { matrix.new ≡ tabulate (λ k. double_at text.now (entry_place start n k))
         (length matrix.old) }
 {
-    let mut k = 0usize;
-    while k < matrix.len() {
-        matrix[k] = double(entry_bits(text, start, n, k));
-        k += 1;
+    for (k, entry) in matrix.iter_mut().enumerate() {
+        *entry = double(entry_bits(text, start, n, k));
     }
 }

@@ -12,7 +12,7 @@ use lib.ListN.{length}
 use Rattle.seq.specs.Lists.{part}
 use Rattle.fields.specs.Bytes.{byte_at}
 use Rattle.fields.specs.Digits.{is_digit, digit_value, number_at, digits_of}
-use Rattle.fields.specs.Fields.{digits_from, width_at, is_count, count_at}
+use Rattle.fields.specs.Fields.{digits_from, width_at, is_count, has_count, count_at}
 use Rattle.fields.specs.Texts.{width_of, count_text}
 use Rattle.fields.proofs.Values.{Says, digit_range, digit_value_lem, digit_says, says_digit, says_positive}
 use Rattle.seq.proofs.Choosing.{both}
@@ -127,7 +127,7 @@ count-plain t i w v e f h =
     }
 
 -- what is read as a count is how its number is written
-pub count_text_lem : (t : List ℕ) (i : ℕ) → (count_at t i).ok ≡ true → Count t i (width_at t i) (count_at t i).value
+pub count_text_lem : (t : List ℕ) (i : ℕ) → has_count t i ≡ true → Count t i (width_at t i) (count_at t i).value
 count_text_lem t i h = count-plain t i (width_at t i) (number_at 10 t i (width_at t i)) refl refl h
 
 -- four tests that hold, hold together
@@ -151,7 +151,7 @@ no_lead t i w v r e s = go (dec_lt w 2)
 
 -- a field that is read as the count v, w digits long
 pub record ReadAs (t : List ℕ) (i w v : ℕ) : Type 0 where
-  pub ok : (count_at t i).ok ≡ true
+  pub ok : has_count t i ≡ true
   pub value : (count_at t i).value ≡ v
   pub next : (count_at t i).next ≡ i + w
   pub width : width_at t i ≡ w

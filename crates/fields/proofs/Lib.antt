@@ -2,6 +2,7 @@
 pub mod Values
 pub mod Widths
 pub mod Turns
+pub mod Chains
 pub mod Puts
 pub mod Numerals
 pub mod BitsBack

@@ -9,7 +9,7 @@ use lib.ListN.{length, get_or-append}
 use Rattle.seq.specs.Choice.{pick}
 use Rattle.fields.specs.Bytes.{byte_at, spelled}
 use Rattle.fields.specs.Digits.{is_digit, is_letter, number_at}
-use Rattle.fields.specs.Fields.{is_bits, bits_at, digits_from, width_at, count_at}
+use Rattle.fields.specs.Fields.{is_bits, bits_at, digits_from, width_at, has_count, count_at}
 use Rattle.seq.proofs.Every.{every_same}
 use Rattle.fields.proofs.Widths.{width_at-most}
 
@@ -36,7 +36,7 @@ number_longer base t more i (suc k) h =
     rw (number_longer base t more i k (omega arith), byte_longer t more (i + k) (omega arith))
 
 pub bits-at_longer : (t more : List ℕ) (i : ℕ) → i + 16 ≤ length t → bits_at (t ++ more) i ≡ bits_at t i
-bits-at_longer t more i h = rw (bits_longer t more i h, number_longer 16 t more i 16 h)
+bits-at_longer t more i h = rw (number_longer 16 t more i 16 h)
 
 -- digits that end before the text does
 pub digits_longer : (t more : List ℕ) (i k : ℕ) → i + digits_from t i k < length t → digits_from (t ++ more) i k ≡ digits_from t i k
@@ -56,7 +56,14 @@ width_longer t more i h = digits_longer t more i 11 h
 
 pub count_longer : (t more : List ℕ) (i : ℕ) → i + width_at t i < length t → count_at (t ++ more) i ≡ count_at t i
 count_longer t more i h =
+    rw (width_longer t more i h, number_longer 10 t more i (width_at t i) (omega arith))
+
+pub has-count_longer : (t more : List ℕ) (i : ℕ) → i + width_at t i < length t → has_count (t ++ more) i ≡ has_count t i
+has-count_longer t more i h =
     rw (width_longer t more i h, number_longer 10 t more i (width_at t i) (omega arith), byte_longer t more i (omega arith))
 
 pub count_longer_12 : (t more : List ℕ) (i : ℕ) → i + 12 ≤ length t → count_at (t ++ more) i ≡ count_at t i
 count_longer_12 t more i h = count_longer t more i (omega (arith, width_at-most t i))
+
+pub has-count_longer_12 : (t more : List ℕ) (i : ℕ) → i + 12 ≤ length t → has_count (t ++ more) i ≡ has_count t i
+has-count_longer_12 t more i h = has-count_longer t more i (omega (arith, width_at-most t i))

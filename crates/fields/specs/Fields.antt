@@ -12,7 +12,7 @@ is_bits text i = all_to (λ k. is_digit (byte_at text (i + k)) || is_letter (byt
 
 -- the bits at i
 abbrev pub bits_at : List ℕ → ℕ → Field
-bits_at text i = record { ok = is_bits text i; value = number_at 16 text i 16; next = i + 16 }
+bits_at text i = record { value = number_at 16 text i 16; next = i + 16 }
 
 -- how many decimal digits stand at i, of at most k
 unfoldable pub digits_from : List ℕ → ℕ → ℕ → ℕ
@@ -27,11 +27,10 @@ width_at text i = digits_from text i 11
 abbrev pub is_count : List ℕ → ℕ → ℕ → ℕ → Bool
 is_count text i w v = ltb 0 w && (ltb w 11 && ((ltb w 2 || not (eqb (byte_at text i) 48)) && leb v 4294967295))
 
+-- a count stands at i
+abbrev pub has_count : List ℕ → ℕ → Bool
+has_count text i = is_count text i (width_at text i) (number_at 10 text i (width_at text i))
+
 -- the count at i
 abbrev pub count_at : List ℕ → ℕ → Field
-count_at text i =
-    record {
-      ok = is_count text i (width_at text i) (number_at 10 text i (width_at text i));
-      value = number_at 10 text i (width_at text i);
-      next = i + width_at text i;
-    }
+count_at text i = record { value = number_at 10 text i (width_at text i); next = i + width_at text i }

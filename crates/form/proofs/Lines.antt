@@ -8,10 +8,11 @@ use native.Mathlib.Decide.{dec_lt}
 use native.Mathlib.Omega.{arith}
 use lib.Dec.{eqb}
 use lib.ListN.{length}
-use Rattle.head.specs.FirstLine.{head_of}
+use Rattle.head.specs.FirstLine.{has_head, head_of}
+use Rattle.head.specs.declared.Head.{Head}
 use Rattle.form.specs.Form.{line_long, is_column, columns_from, end_of, wrong_line}
 use Rattle.form.proofs.Columns.{one_column, no_column, none_asked}
-use Rattle.form.proofs.Verdicts.{first_wrong, column_wrong, none_wrong, end_wrong}
+use Rattle.form.proofs.Verdicts.{Sized, sized, first_wrong, column_wrong, none_wrong, end_wrong}
 
 -- each of k lines is a column where none of them is not
 pub every_column : (t : List ℕ) (n i k : ℕ) → k ≤ columns_from t n i k → (j : ℕ) → j < k → is_column t n (i + j * line_long n) ≡ true
@@ -39,14 +40,14 @@ all_columns t n i (suc k) h =
     ∙ ap suc (all_columns t n (i + line_long n) k (λ j g. rw (q j) at (h (suc j) (omega arith))))
 
 pub record Right (t : List ℕ) : Type 0 where
-  pub first : (head_of t).ok ≡ true
+  pub first : has_head t ≡ true
   pub columns : (j : ℕ) → j < (head_of t).m → is_column t (head_of t).n ((head_of t).next + j * line_long (head_of t).n) ≡ true
   pub long : length t ≡ end_of (head_of t)
 
 pub right : (t : List ℕ) → wrong_line t ≡ 0 → Right t
-right t h = go (head_of t).ok refl
+right t h = go (has_head t) refl
   where
-    last : (s : Bool) → eqb (length t) (end_of (head_of t)) ≡ s → (head_of t).ok ≡ true
+    last : (s : Bool) → eqb (length t) (end_of (head_of t)) ≡ s → has_head t ≡ true
         → (head_of t).m ≤ columns_from t (head_of t).n (head_of t).next (head_of t).m → Right t
     last true e f l =
         record {
@@ -56,11 +57,11 @@ right t h = go (head_of t).ok refl
         }
     last false e f l = absurd (omega (arith, end_wrong t (head_of t) _ refl f refl l (eqb-false (length t) (end_of (head_of t)) e)))
 
-    more : Dec (columns_from t (head_of t).n (head_of t).next (head_of t).m < (head_of t).m) → (head_of t).ok ≡ true → Right t
+    more : Dec (columns_from t (head_of t).n (head_of t).next (head_of t).m < (head_of t).m) → has_head t ≡ true → Right t
     more (yes l) f = absurd (omega (arith, column_wrong t (head_of t) _ refl f refl l))
     more (no l) f = last (eqb (length t) (end_of (head_of t))) refl f (omega arith)
 
-    go : (s : Bool) → (head_of t).ok ≡ s → Right t
+    go : (s : Bool) → has_head t ≡ s → Right t
     go false e = absurd (omega (arith, first_wrong t (head_of t) refl e))
     go true e = more (dec_lt _ _) e
 
@@ -69,3 +70,7 @@ right-back t r =
     let e : columns_from t (head_of t).n (head_of t).next (head_of t).m ≡ (head_of t).m =
     all_columns t (head_of t).n (head_of t).next (head_of t).m r.columns in
     sym (none_wrong t (head_of t) (head_of t).m refl r.first (sym e) (omega arith) r.long)
+
+-- what a text of which no line is wrong says of the sizes
+pub sized_right : (t : List ℕ) (h : Head) → h ≡ head_of t → wrong_line t ≡ 0 → Sized h
+sized_right t h e z = sized t h e (right t z).first

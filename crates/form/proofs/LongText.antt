@@ -14,8 +14,8 @@ use Rattle.fields.specs.Bytes.{newline, byte_at, spelled}
 use Rattle.fields.specs.Fields.{is_bits}
 use Rattle.seq.proofs.Every.{every_same}
 use Rattle.fields.proofs.Longer.{byte_longer, spelled_longer, bits_longer}
-use Rattle.head.specs.FirstLine.{head_of}
-use Rattle.head.proofs.Longer.{head_longer}
+use Rattle.head.specs.FirstLine.{has_head, head_of}
+use Rattle.head.proofs.Longer.{head_longer, has-head_longer}
 use Rattle.form.specs.Form.{line_long, is_entry, col_word, is_column, columns_from, wrong_line}
 use Rattle.form.proofs.Verdicts.{Sized, sized, first_wrong, column_wrong, end_wrong}
 
@@ -50,10 +50,13 @@ record Same (t u : List ℕ) : Type 0 where
   same : wrong_line u ≡ wrong_line t
 
 long_text : (t more : List ℕ) → 40000 < length t → Same t (t ++ more)
-long_text t more h = go (head_of t).ok refl
+long_text t more h = go (has_head t) refl
   where
     e : head_of t ≡ head_of (t ++ more)
     e = sym (head_longer t more (omega arith))
+
+    e' : has_head (t ++ more) ≡ has_head t
+    e' = has-head_longer t more (omega arith)
 
     same : (x : ℕ) → suc x ≡ wrong_line t → suc x ≡ wrong_line (t ++ more) → Same t (t ++ more)
     same x p q = record { some = omega arith; same = sym q ∙ p }
@@ -61,23 +64,23 @@ long_text t more h = go (head_of t).ok refl
     count : ℕ
     count = columns_from t (head_of t).n (head_of t).next (head_of t).m
 
-    after : (head_of t).ok ≡ true → Sized (head_of t) → Dec (count < (head_of t).m) → Same t (t ++ more)
+    after : has_head t ≡ true → Sized (head_of t) → Dec (count < (head_of t).m) → Same t (t ++ more)
     after f z d =
         let c : count ≡ columns_from (t ++ more) (head_of t).n (head_of t).next (head_of t).m =
         sym (columns_longer t more (head_of t).n (head_of t).next (head_of t).m (omega arith)) in
         let l : length (t ++ more) ≡ length t + length more = length-append t more in
         last f z d c l
       where
-        last : (head_of t).ok ≡ true → Sized (head_of t) → Dec (count < (head_of t).m) → count ≡ columns_from (t ++ more) (head_of t).n (head_of t).next (head_of t).m
+        last : has_head t ≡ true → Sized (head_of t) → Dec (count < (head_of t).m) → count ≡ columns_from (t ++ more) (head_of t).n (head_of t).next (head_of t).m
             → length (t ++ more) ≡ length t + length more → Same t (t ++ more)
         last f z (yes g) c l =
-            same (suc count) (two count ∙ column_wrong t (head_of t) count refl f refl g) (two count ∙ column_wrong (t ++ more) (head_of t) count e f c g)
+            same (suc count) (two count ∙ column_wrong t (head_of t) count refl f refl g) (two count ∙ column_wrong (t ++ more) (head_of t) count e (e' ∙ f) c g)
         last f z (no g) c l =
             same (suc (head_of t).m) (two (head_of t).m ∙ end_wrong t (head_of t) count refl f refl (omega arith) (λ p. omega arith))
-            (two (head_of t).m ∙ end_wrong (t ++ more) (head_of t) count e f c (omega arith) (λ p. omega arith))
+            (two (head_of t).m ∙ end_wrong (t ++ more) (head_of t) count e (e' ∙ f) c (omega arith) (λ p. omega arith))
 
-    go : (s : Bool) → (head_of t).ok ≡ s → Same t (t ++ more)
-    go false f = same 0 (first_wrong t (head_of t) refl f) (first_wrong (t ++ more) (head_of t) e f)
+    go : (s : Bool) → has_head t ≡ s → Same t (t ++ more)
+    go false f = same 0 (first_wrong t (head_of t) refl f) (first_wrong (t ++ more) (head_of t) e (e' ∙ f))
     go true f = after f (sized t (head_of t) refl f) (dec_lt count (head_of t).m)
 
 -- A text of more than 40000 bytes has a wrong line.

@@ -18,7 +18,7 @@ use Rattle.seq.proofs.Filling.{tab_cong}
 use Rattle.seq.specs.Keep.{all_to}
 use Rattle.fields.specs.Bytes.{tab, newline, byte_at, spelled}
 use Rattle.fields.specs.Digits.{is_digit, number_at}
-use Rattle.fields.specs.Fields.{is_bits, bits_at, count_at}
+use Rattle.fields.specs.Fields.{is_bits, bits_at, has_count, count_at}
 use Rattle.fields.specs.Texts.{bits_text, count_text}
 use Rattle.fields.specs.declared.Field.{Field}
 use Rattle.seq.proofs.Choosing.{both}
@@ -27,9 +27,13 @@ use Rattle.fields.proofs.Widths.{length-bits}
 use Rattle.fields.proofs.Words.{spelled_at}
 use Rattle.rules.specs.declared.Rule.TheVariants.{Target, Within}
 use Rattle.head.specs.Words.{thin_word, target_word, within_word, second_edition, dash}
-use Rattle.head.specs.FirstLine.{cap_at, target_at, within_at, rule_at, sizes_at, edition_at, head_of}
+use Rattle.head.specs.FirstLine.{has_cap, cap_at, has_within, within_at, has_rule, rule_at}
+use Rattle.head.specs.FirstLine.{has_sizes, sizes_at, has_edition, edition_at, has_head, head_of}
 use Rattle.head.specs.declared.Head.{Head}
-use Rattle.head.proofs.Fields.{cap_dash, cap_count, sizes_is, within_is, rule_target, rule_within, edition_two, edition_one, head_is}
+use Rattle.head.specs.declared.RuleField.{RuleField}
+use Rattle.head.specs.declared.Sizes.{Sizes}
+use Rattle.head.proofs.Fields.{cap_dash, cap_count, sizes_is, has_sizes_is, within_is, has_within_is}
+use Rattle.head.proofs.Fields.{rule_target, rule_within, edition_two, edition_one, head_is, has_head_is}
 use Rattle.form.specs.Form.{line_long, is_entry, col_word, is_column, end_of, wrong_line}
 use Rattle.form.specs.Reading.{weight_bits, matrix_bits, weights_of, matrix_of}
 use Rattle.form.specs.Sheets.{Wish, target, within, Sheet, cap_text, wish_text, edition_text, head_text, entries_text, column_text, columns_text}
@@ -39,12 +43,15 @@ use Rattle.form.proofs.Lines.{right-back}
 
 -- the cap that stands from i to p, where no digit follows
 cap_read : {t : List ℕ} {i p : ℕ} (cap : Option ℕ) → cap_fits cap ≡ true → Seg t i p (cap_text cap) → is_digit (byte_at t p) ≡ false
-    → cap_at t i ≡ record { ok = true; cap = cap; next = p }
-cap_read {t} {i} {p} None h a e = rw a.ends (sym (cap_dash t i dash (sym (seg_byte a)) refl))
+    → (has_cap t i ≡ true) × (cap_at t i ≡ record { cap = cap; next = p })
+cap_read {t} {i} {p} None h a e =
+    let k = cap_dash t i dash (sym (seg_byte a)) refl in
+    (k.0, rw a.ends (sym k.1))
 cap_read {t} {i} {p} (Some c) h a e =
-    let f : count_at t i ≡ record { ok = true; value = c; next = p } = seg_count c (leb-true c 4294967295 h) a e in
+    let f = seg_count c (leb-true c 4294967295 h) a e in
     let d : byte_at t i ≡ 45 → ⊥ = λ q. false≢true (ap is_digit (sym q) ∙ seg_digit c a) in
-    sym (cap_count t i (byte_at t i) (record { ok = true; value = c; next = p }) refl d (sym f))
+    let k = cap_count t i (byte_at t i) (record { value = c; next = p }) refl d (sym f.1) in
+    (k.0 ∙ f.0, sym k.1)
 
 -- the words of the two rules differ
 not_target : (t : List ℕ) (i : ℕ) → spelled within_word t i ≡ true → spelled target_word t i ≡ false
@@ -59,29 +66,29 @@ not_target t i h = go (spelled target_word t i) refl
 
 -- the rule
 rule_read : {t : List ℕ} {i p : ℕ} (w : Wish) → wish_fits w ≡ true → Seg t i p (wish_text w) → is_digit (byte_at t p) ≡ false
-    → rule_at t i ≡ record { ok = true; rule = rule_of w; allowance = allowance_of w; next = p }
+    → (has_rule t i ≡ true) × (rule_at t i ≡ record { rule = rule_of w; allowance = allowance_of w; next = p })
 rule_read {t} {i} {p} (target v) h a e =
     let s : spelled target_word t i ≡ true = seg_word target_word (seg_first target_word (count_text v) a) in
-    let f : count_at t (i + 7) ≡ record { ok = true; value = v; next = p } =
-    seg_count v (leb-true v 4294967295 h) (seg_rest target_word (count_text v) a) e in
-    let g : target_at t (i + 7) ≡ record { ok = true; rule = Target v; allowance = 0; next = p } =
-    ap (λ (x : Field). record { ok = x.ok; rule = Target x.value; allowance = 0; next = x.next }) f in
-    sym (rule_target t i true (record { ok = true; rule = Target v; allowance = 0; next = p }) (sym s) refl (sym g))
+    let f = seg_count v (leb-true v 4294967295 h) (seg_rest target_word (count_text v) a) e in
+    let k = rule_target t i true (sym s) refl in
+    (k.0 ∙ f.0, k.1 ∙ ap (λ (x : Field). record { rule = Target x.value; allowance = 0; next = x.next }) f.1)
 rule_read {t} {i} {p} (within x cap) h a e =
     let fit = both (ltb x (2 ^ 64)) (cap_fits cap) h in
     let s : spelled within_word t i ≡ true = seg_word within_word (seg_first within_word (bits_text x ++ (tab ∷ cap_text cap)) a) in
     let b : Seg t (i + 7) p (bits_text x ++ (tab ∷ cap_text cap)) = seg_rest within_word (bits_text x ++ (tab ∷ cap_text cap)) a in
-    let f : bits_at t (i + 7) ≡ record { ok = true; value = x; next = i + 7 + 16 } = seg_bits_at x (ltb-true x (2 ^ 64) fit.0)
+    let bits = seg_bits x (ltb-true x (2 ^ 64) fit.0) (seg_first (bits_text x) (tab ∷ cap_text cap) b) in
+    let f : bits_at t (i + 7) ≡ record { value = x; next = i + 7 + 16 } = seg_bits_at x (ltb-true x (2 ^ 64) fit.0)
     (seg_first (bits_text x) (tab ∷ cap_text cap) b) in
     let l : i + 7 + length (bits_text x) ≡ i + 7 + 16 = ap (λ (z : ℕ). i + 7 + z) (length-bits x) in
     let c : Seg t (i + 7 + 16) p (tab ∷ cap_text cap) = rw l at (seg_rest (bits_text x) (tab ∷ cap_text cap) b) in
     let q : suc (i + 7 + 16) ≡ i + 7 + 17 = omega arith in
     let d : Seg t (i + 7 + 17) p (cap_text cap) = rw q at (seg_after c) in
-    let g : record { ok = true; rule = Within (of_bits binary64 x) cap; allowance = x; next = p } ≡ within_at t (i + 7) =
-    within_is t (i + 7) tab (record { ok = true; value = x; next = i + 7 + 16 }) (of_bits binary64 x) (record { ok = true; cap = cap; next = p })
-    (sym f) (sym (seg_byte c)) (sym (cap_read cap fit.1 d e)) refl in
-    sym (rule_within t i false true (record { ok = true; rule = Within (of_bits binary64 x) cap; allowance = x; next = p })
-    (sym (not_target t i s)) refl (sym s) refl g)
+    let r = cap_read cap fit.1 d e in
+    let good : has_within t (i + 7) ≡ true = sym (has_within_is t (i + 7) tab true true (sym bits.0) (sym (seg_byte c)) (sym r.0)) in
+    let g : record { rule = Within (of_bits binary64 x) cap; allowance = x; next = p } ≡ within_at t (i + 7) =
+    within_is t (i + 7) (record { value = x; next = i + 7 + 16 }) (of_bits binary64 x) (record { cap = cap; next = p }) (sym f) (sym r.1) refl in
+    let k = rule_within t i false true (sym (not_target t i s)) refl (sym s) refl in
+    (k.0 ∙ good, k.1 ∙ sym g)
 
 -- the end of the line: what it begins with, and the edition that it says
 edition_first : {t : List ℕ} {i j : ℕ} (e : ℕ) → Seg t i j (edition_text e) → is_digit (byte_at t i) ≡ false
@@ -101,25 +108,30 @@ not_second t i h = go (spelled second_edition t i) refl
         let p : byte_at t i ≡ 9 = rw z at (spelled_at second_edition t i e 0 (omega arith)) in
         absurd (omega arith)
 
-edition_read : {t : List ℕ} {i j : ℕ} (e : ℕ) → 1 ≤ e → e ≤ 2 → Seg t i j (edition_text e) → edition_at t i ≡ record { ok = true; edition = e; next = j }
+edition_read : {t : List ℕ} {i j : ℕ} (e : ℕ) → 1 ≤ e → e ≤ 2 → Seg t i j (edition_text e)
+    → (has_edition t i ≡ true) × (edition_at t i ≡ record { edition = e; next = j })
 edition_read {t} {i} {j} e low high a = go (eqb e 2) refl a
   where
     first : (e ≡ 2 → ⊥) → Dec (e < 2) → e ≡ 1
     first h (yes g) = omega arith
     first h (no g) = absurd (h (omega arith))
 
-    go : (s : Bool) → eqb e 2 ≡ s → Seg t i j (pick s second_edition (newline ∷ [])) → edition_at t i ≡ record { ok = true; edition = e; next = j }
+    go : (s : Bool) → eqb e 2 ≡ s → Seg t i j (pick s second_edition (newline ∷ []))
+        → (has_edition t i ≡ true) × (edition_at t i ≡ record { edition = e; next = j })
     go true f b =
         let p : e ≡ 2 = eqb-true e 2 f in
-        rw (p, b.ends) (sym (edition_two t i true (sym (seg_word second_edition b)) refl))
+        let k = edition_two t i true (sym (seg_word second_edition b)) refl in
+        (k.0, rw (p, b.ends) (sym k.1))
     go false f b =
         let p : e ≡ 1 = first (eqb-false e 2 f) (dec_lt e 2) in
-        rw (p, b.ends) (sym (edition_one t i newline false (sym (not_second t i (seg_byte b))) refl (sym (seg_byte b))))
+        let k = edition_one t i newline false (sym (not_second t i (seg_byte b))) refl (sym (seg_byte b)) in
+        (k.0, rw (p, b.ends) (sym k.1))
 
 -- the sizes that stand at i, and what stands behind them
 record SizesRead (t : List ℕ) (i k m n : ℕ) (rest : List ℕ) : Type 0 where
   next : ℕ
-  read : sizes_at t i ≡ record { ok = true; m = m; n = n; next = next }
+  good : has_sizes t i ≡ true
+  read : sizes_at t i ≡ record { m = m; n = n; next = next }
   behind : Seg t next k rest
 
 sizes_read : {t : List ℕ} {i k : ℕ} (m n : ℕ) (rest : List ℕ) → m ≤ 32 → n ≤ 64 → Seg t i k (count_text m ++ (tab ∷ (count_text n ++ (tab ∷ rest))))
@@ -130,15 +142,19 @@ sizes_read {t} {i} {k} m n rest h g a =
     let b : Seg t j k (tab ∷ (count_text n ++ (tab ∷ rest))) = seg_rest (count_text m) _ a in
     let c : Seg t (suc j) k (count_text n ++ (tab ∷ rest)) = seg_after b in
     let d : Seg t l k (tab ∷ rest) = seg_rest (count_text n) _ c in
-    let e : count_at t i ≡ record { ok = true; value = m; next = j } = seg_count m (omega arith) (seg_first (count_text m) _ a) (ap is_digit (seg_byte b)) in
-    let f : count_at t (suc j) ≡ record { ok = true; value = n; next = l } = seg_count n (omega arith) (seg_first (count_text n) _ c) (ap is_digit (seg_byte d)) in
-    let f' : count_at t (j + 1) ≡ record { ok = true; value = n; next = l } = ap (count_at t) (add-one j) ∙ f in
-    let z : record { ok = (true && (leb m 32 && true)) && (true && (leb n 64 && true)); m = m; n = n; next = l + 1 } ≡ sizes_at t i =
-    sizes_is t i tab tab (record { ok = true; value = m; next = j }) (record { ok = true; value = n; next = l }) (sym e)
-    (sym (seg_byte b)) (sym f') (sym (seg_byte d)) in
+    let e = seg_count m (omega arith) (seg_first (count_text m) _ a) (ap is_digit (seg_byte b)) in
+    let f = seg_count n (omega arith) (seg_first (count_text n) _ c) (ap is_digit (seg_byte d)) in
+    let x : Field = record { value = m; next = j } in
+    let y : Field = record { value = n; next = l } in
+    let f' : count_at t (j + 1) ≡ y = ap (count_at t) (add-one j) ∙ f.1 in
+    let u : has_count t (j + 1) ≡ true = ap (has_count t) (add-one j) ∙ f.0 in
+    let z : record { m = m; n = n; next = l + 1 } ≡ sizes_at t i = sizes_is t i x y (sym e.1) (sym f') in
+    let w : ((true && (leb m 32 && true)) && (true && (leb n 64 && true))) ≡ has_sizes t i =
+    has_sizes_is t i tab tab true true x y (sym e.0) (sym e.1) (sym (seg_byte b)) (sym u) (sym f') (sym (seg_byte d)) in
     record {
       next = suc l;
-      read = sym z ∙ rw (le-leb m 32 h, le-leb n 64 g, add-one l);
+      good = sym w ∙ rw (le-leb m 32 h, le-leb n 64 g);
+      read = sym z ∙ rw (add-one l);
       behind = seg_after d;
     }
 
@@ -146,7 +162,6 @@ sizes_read {t} {i} {k} m n rest h g a =
 abbrev head_for : Sheet → ℕ → Head
 head_for s e =
     record {
-      ok = true;
       m = s.m;
       n = s.n;
       seed = s.seed;
@@ -156,13 +171,14 @@ head_for s e =
       next = e;
     }
 
-pub head_read : {t : List ℕ} {e : ℕ} (s : Sheet) → Fits s → Seg t 0 e (head_text s) → head_of t ≡ head_for s e
+pub head_read : {t : List ℕ} {e : ℕ} (s : Sheet) → Fits s → Seg t 0 e (head_text s) → (has_head t ≡ true) × (head_of t ≡ head_for s e)
 head_read {t} {e} s fit a =
     let end : List ℕ = wish_text s.wish ++ edition_text s.edition in
     let z : SizesRead t 5 e s.m s.n (bits_text s.seed ++ (tab ∷ end)) =
     sizes_read s.m s.n (bits_text s.seed ++ (tab ∷ end)) fit.columns fit.rows (seg_rest thin_word _ a) in
     let i : ℕ = z.next in
-    let f : bits_at t i ≡ record { ok = true; value = s.seed; next = i + 16 } =
+    let bits = seg_bits s.seed fit.seeds (seg_first (bits_text s.seed) (tab ∷ end) z.behind) in
+    let f : bits_at t i ≡ record { value = s.seed; next = i + 16 } =
     seg_bits_at s.seed fit.seeds (seg_first (bits_text s.seed) (tab ∷ end) z.behind) in
     let l : i + length (bits_text s.seed) ≡ i + 16 = ap (λ (x : ℕ). i + x) (length-bits s.seed) in
     let b : Seg t (i + 16) e (tab ∷ end) = rw l at (seg_rest (bits_text s.seed) (tab ∷ end) z.behind) in
@@ -170,14 +186,16 @@ head_read {t} {e} s fit a =
     let c : Seg t (i + 17) e end = rw q at (seg_after b) in
     let p : ℕ = i + 17 + length (wish_text s.wish) in
     let d : Seg t p e (edition_text s.edition) = seg_rest (wish_text s.wish) (edition_text s.edition) c in
-    let r : rule_at t (i + 17) ≡ record { ok = true; rule = rule_of s.wish; allowance = allowance_of s.wish; next = p } =
-    rule_read s.wish fit.wishes (seg_first (wish_text s.wish) (edition_text s.edition) c) (edition_first s.edition d) in
-    let g : edition_at t p ≡ record { ok = true; edition = s.edition; next = e } =
-    edition_read s.edition fit.editions.0 fit.editions.1 d in
-    sym
-    (head_is t true (record { ok = true; m = s.m; n = s.n; next = i }) (record { ok = true; value = s.seed; next = i + 16 }) tab
-    (record { ok = true; rule = rule_of s.wish; allowance = allowance_of s.wish; next = p }) (record { ok = true; edition = s.edition; next = e })
-    (sym (seg_word thin_word (seg_first thin_word _ a))) (sym z.read) (sym f) (sym (seg_byte b)) (sym r) (sym g))
+    let r = rule_read s.wish fit.wishes (seg_first (wish_text s.wish) (edition_text s.edition) c) (edition_first s.edition d) in
+    let g = edition_read s.edition fit.editions.0 fit.editions.1 d in
+    let x : Sizes = record { m = s.m; n = s.n; next = i } in
+    let y : RuleField = record { rule = rule_of s.wish; allowance = allowance_of s.wish; next = p } in (
+      sym
+          (has_head_is t true true true true true tab x y (sym (seg_word thin_word (seg_first thin_word _ a))) (sym z.good) (sym z.read)
+          (sym bits.0) (sym (seg_byte b)) (sym r.0) (sym r.1) (sym g.0)),
+      sym
+          (head_is t x (record { value = s.seed; next = i + 16 }) y (record { edition = s.edition; next = e }) (sym z.read) (sym f) (sym r.1) (sym g.1)),
+    )
 
 pub length_entries : (e : ℕ → ℕ) (k : ℕ) → length (entries_text e k) ≡ 17 * k
 unfolding entries_text
@@ -293,11 +311,11 @@ place_of m n k h = go (dec_lt 0 n)
         absurd (omega arith)
 
 -- no line is wrong where the first is read and each column is
-no_line_wrong : (t : List ℕ) (h : Head) → head_of t ≡ h → h.ok ≡ true → ((j : ℕ) → j < h.m → is_column t h.n (h.next + j * line_long h.n) ≡ true)
+no_line_wrong : (t : List ℕ) (h : Head) → head_of t ≡ h → has_head t ≡ true → ((j : ℕ) → j < h.m → is_column t h.n (h.next + j * line_long h.n) ≡ true)
     → length t ≡ end_of h
     → wrong_line t ≡ 0
 no_line_wrong t h e f g l =
-    right-back t (record { first = ap (λ (x : Head). x.ok) e ∙ f; columns = rw e g; long = l ∙ ap end_of (sym e) })
+    right-back t (record { first = f; columns = rw e g; long = l ∙ ap end_of (sym e) })
 
 says : (t : List ℕ) (s : Sheet) → Fits s → t ≡ sheet_text s → Says t s
 says t s fit e =
@@ -305,7 +323,8 @@ says t s fit e =
     let columns : List ℕ = columns_text s.n s.weight s.entry s.m in
     let start : ℕ = 0 + length (head_text s) in
     let h : Head = head_for s start in
-    let head : head_of t ≡ h = head_read s fit (seg_first (head_text s) columns whole) in
+    let first = head_read s fit (seg_first (head_text s) columns whole) in
+    let head : head_of t ≡ h = first.1 in
     let lines : Seg t start (length t) columns = seg_rest (head_text s) columns whole in
     let column : (j : ℕ) → j < s.m → ColumnRead t s.n (start + j * line_long s.n) (s.weight j) (s.entry j) =
     λ j g. column_read s.n (s.weight j) (s.entry j) (fit.weights j g) (λ i l. fit.entries j i g l)
@@ -313,7 +332,7 @@ says t s fit e =
     record {
       fits = fit;
       written = e;
-      right = no_line_wrong t h head refl (λ j g. (column j g).good)
+      right = no_line_wrong t h head first.0 (λ j g. (column j g).good)
           (lines.ends ∙ ap (λ (x : ℕ). start + x) (length-columns s.n s.weight s.entry s.m));
       columns = ap (λ (x : Head). x.m) head;
       rows = ap (λ (x : Head). x.n) head;

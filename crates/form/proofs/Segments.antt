@@ -2,7 +2,7 @@
 use borrow.Author.Tests.{ltb-true}
 use Prim.Native.Nat.{ℕ, suc, ◌+◌, ◌^◌, ◌≤◌, ◌<◌}
 use mathlib.Core.Path.{◌≡◌, refl, sym, ap, ◌∙◌}
-use mathlib.Core.Bool.{Bool, true, false}
+use mathlib.Core.Bool.{true, false}
 use mathlib.Core.List.{List, [], ◌∷◌, ◌++◌}
 use native.Mathlib.Omega.{arith}
 use lib.Dec.{ltb}
@@ -13,7 +13,7 @@ use Rattle.seq.proofs.Parts.{part-add, get_d_part}
 use Rattle.seq.specs.Keep.{all_to}
 use Rattle.fields.specs.Bytes.{byte_at, spelled}
 use Rattle.fields.specs.Digits.{is_digit, number_at}
-use Rattle.fields.specs.Fields.{is_bits, bits_at, count_at, width_at}
+use Rattle.fields.specs.Fields.{is_bits, bits_at, has_count, count_at, width_at}
 use Rattle.fields.specs.Texts.{bits_text, count_text, width_of}
 use Rattle.fields.specs.declared.Field.{Field}
 use Rattle.fields.proofs.Values.{Says, says_digit}
@@ -92,9 +92,8 @@ pub seg_word : {t : List ℕ} {i j : ℕ} (word : List ℕ) → Seg t i j word �
 seg_word {t} {i} {j} word a = part-spelled word t i a.is
 
 -- a field, part by part
-same_field : (o : Bool) (x y v j : ℕ) → o ≡ true → x ≡ v → y ≡ j
-    → ◌≡◌ {A = Field} (record { ok = o; value = x; next = y }) (record { ok = true; value = v; next = j })
-same_field o x y v j p q r = rw (p, q, r)
+same_field : (x y v j : ℕ) → x ≡ v → y ≡ j → ◌≡◌ {A = Field} (record { value = x; next = y }) (record { value = v; next = j })
+same_field x y v j q r = rw (q, r)
 
 -- bits
 pub bits_seg : (t : List ℕ) (i : ℕ) → is_bits t i ≡ true → Seg t i (i + 16) (bits_text (number_at 16 t i 16))
@@ -105,28 +104,26 @@ bits_seg t i h =
 pub seg_bits : {t : List ℕ} {i j : ℕ} (x : ℕ) → x < 2 ^ 64 → Seg t i j (bits_text x) → (is_bits t i ≡ true) × (number_at 16 t i 16 ≡ x)
 seg_bits {t} {i} {j} x h a = text_bits x t i h (ap (λ (z : ℕ). part i z t) (sym (length-bits x)) ∙ a.is)
 
-pub seg_bits_at : {t : List ℕ} {i j : ℕ} (x : ℕ) → x < 2 ^ 64 → Seg t i j (bits_text x) → bits_at t i ≡ record { ok = true; value = x; next = i + 16 }
-seg_bits_at {t} {i} {j} x h a =
-    let e = seg_bits x h a in
-    same_field (is_bits t i) (number_at 16 t i 16) (i + 16) x (i + 16) e.0 e.1 refl
+pub seg_bits_at : {t : List ℕ} {i j : ℕ} (x : ℕ) → x < 2 ^ 64 → Seg t i j (bits_text x) → bits_at t i ≡ record { value = x; next = i + 16 }
+seg_bits_at {t} {i} {j} x h a = same_field (number_at 16 t i 16) (i + 16) x (i + 16) (seg_bits x h a).1 refl
 
 -- a count
-pub count_seg : (t : List ℕ) (i : ℕ) → (count_at t i).ok ≡ true → Seg t i (count_at t i).next (count_text (count_at t i).value)
+pub count_seg : (t : List ℕ) (i : ℕ) → has_count t i ≡ true → Seg t i (count_at t i).next (count_text (count_at t i).value)
 count_seg t i h =
     let c = count_text_lem t i h in
     let l : length (count_text (count_at t i).value) ≡ width_at t i = length-count (count_at t i).value ∙ sym c.wide in
     record { ends = omega arith; is = ap (λ (x : ℕ). part i x t) l ∙ c.text }
 
-pub count_most : (t : List ℕ) (i : ℕ) → (count_at t i).ok ≡ true → (count_at t i).value ≤ 4294967295
+pub count_most : (t : List ℕ) (i : ℕ) → has_count t i ≡ true → (count_at t i).value ≤ 4294967295
 count_most t i h = (count_text_lem t i h).most
 
 -- which a byte follows that is no digit
 pub seg_count : {t : List ℕ} {i j : ℕ} (v : ℕ) → v ≤ 4294967295 → Seg t i j (count_text v) → is_digit (byte_at t j) ≡ false
-    → count_at t i ≡ record { ok = true; value = v; next = j }
+    → (has_count t i ≡ true) × (count_at t i ≡ record { value = v; next = j })
 seg_count {t} {i} {j} v h a g =
     let e : j ≡ i + width_of v = omega (arith, a.ends, length-count v) in
     let r = text_count v t i h (ap (λ (x : ℕ). part i x t) (sym (length-count v)) ∙ a.is) (rw (← e) g) in
-    same_field (count_at t i).ok (count_at t i).value (count_at t i).next v j r.ok r.value (r.next ∙ sym e)
+    (r.ok, same_field (count_at t i).value (count_at t i).next v j r.value (r.next ∙ sym e))
 
 -- and which begins with a digit
 pub seg_digit : {t : List ℕ} {i j : ℕ} (v : ℕ) → Seg t i j (count_text v) → is_digit (byte_at t i) ≡ true

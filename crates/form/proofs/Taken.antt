@@ -12,13 +12,14 @@ use Rattle.seq.specs.Choice.{pick}
 use Rattle.seq.specs.Keep.{all_to}
 use Rattle.fields.specs.Bytes.{tab, newline, byte_at, spelled}
 use Rattle.fields.specs.Digits.{number_at}
-use Rattle.fields.specs.Fields.{is_bits, bits_at, count_at}
+use Rattle.fields.specs.Fields.{is_bits, bits_at, has_count, count_at}
 use Rattle.fields.specs.Texts.{bits_text, count_text}
 use Rattle.seq.proofs.Choosing.{both}
 use Rattle.seq.proofs.Every.{every_at}
 use Rattle.fields.proofs.BitsBack.{bits_below}
 use Rattle.head.specs.Words.{thin_word, target_word, within_word, second_edition, dash}
-use Rattle.head.specs.FirstLine.{cap_at, target_at, within_at, no_rule, rule_at, sizes_at, edition_at, head_of}
+use Rattle.head.specs.FirstLine.{has_cap, cap_at, target_at, has_within, within_at, no_rule, has_rule, rule_at}
+use Rattle.head.specs.FirstLine.{has_sizes, sizes_at, has_edition, edition_at, has_head, head_of}
 use Rattle.head.specs.declared.CapField.{CapField}
 use Rattle.head.specs.declared.RuleField.{RuleField}
 use Rattle.head.specs.declared.EditionField.{EditionField}
@@ -44,15 +45,15 @@ record CapSaid (t : List ℕ) (i : ℕ) (k : CapField) : Type 0 where
   stands : Seg t i k.next (cap_text k.cap)
   fits : cap_fits k.cap ≡ true
 
-cap_said : (t : List ℕ) (i : ℕ) → (cap_at t i).ok ≡ true → CapSaid t i (cap_at t i)
-unfolding cap_at
+cap_said : (t : List ℕ) (i : ℕ) → has_cap t i ≡ true → CapSaid t i (cap_at t i)
+unfolding has_cap cap_at
 cap_said t i h = go (eqb (byte_at t i) dash) refl h
   where
     count : CapField
-    count = record { ok = (count_at t i).ok; cap = Some (count_at t i).value; next = (count_at t i).next }
+    count = record { cap = Some (count_at t i).value; next = (count_at t i).next }
 
-    go : (s : Bool) → eqb (byte_at t i) dash ≡ s → (pick s (record { ok = true; cap = None; next = suc i }) count).ok ≡ true
-        → CapSaid t i (pick s (record { ok = true; cap = None; next = suc i }) count)
+    go : (s : Bool) → eqb (byte_at t i) dash ≡ s → pick s true (has_count t i) ≡ true
+        → CapSaid t i (pick s (record { cap = None; next = suc i }) count)
     go true e g = record { stands = tested t i dash e (omega arith); fits = refl }
     go false e g = record { stands = count_seg t i g; fits = le-leb (count_at t i).value 4294967295 (count_most t i g) }
 
@@ -63,7 +64,7 @@ record RuleSaid (t : List ℕ) (i : ℕ) (r : RuleField) (w : Wish) : Type 0 whe
   rule : r.rule ≡ rule_of w
   allowance : r.allowance ≡ allowance_of w
 
-target_said : (t : List ℕ) (i : ℕ) → spelled target_word t i ≡ true → (count_at t (i + 7)).ok ≡ true
+target_said : (t : List ℕ) (i : ℕ) → spelled target_word t i ≡ true → (has_count t (i + 7)) ≡ true
     → RuleSaid t i (target_at t (i + 7)) (target (count_at t (i + 7)).value)
 unfolding all_to
 target_said t i e h =
@@ -74,12 +75,12 @@ target_said t i e h =
       allowance = refl;
     }
 
-within_said : (t : List ℕ) (i : ℕ) → spelled within_word t i ≡ true → (within_at t (i + 7)).ok ≡ true
+within_said : (t : List ℕ) (i : ℕ) → spelled within_word t i ≡ true → (has_within t (i + 7)) ≡ true
     → RuleSaid t i (within_at t (i + 7)) (within (bits_at t (i + 7)).value (cap_at t (i + 7 + 17)).cap)
-unfolding all_to within_at
+unfolding all_to has_within within_at
 within_said t i e h =
-    let p = both (is_bits t (i + 7)) (eqb (byte_at t (i + 7 + 16)) tab && (cap_at t (i + 7 + 17)).ok) h in
-    let q = both (eqb (byte_at t (i + 7 + 16)) tab) (cap_at t (i + 7 + 17)).ok p.1 in
+    let p = both (is_bits t (i + 7)) (eqb (byte_at t (i + 7 + 16)) tab && (has_cap t (i + 7 + 17))) h in
+    let q = both (eqb (byte_at t (i + 7 + 16)) tab) (has_cap t (i + 7 + 17)) p.1 in
     let c : CapSaid t (i + 7 + 17) (cap_at t (i + 7 + 17)) = cap_said t (i + 7 + 17) q.1 in
     record {
       stands =
@@ -90,12 +91,12 @@ within_said t i e h =
       allowance = refl;
     }
 
-rule_said : (t : List ℕ) (i : ℕ) → (rule_at t i).ok ≡ true → RuleSaid t i (rule_at t i) (wish_at t i)
-unfolding rule_at
+rule_said : (t : List ℕ) (i : ℕ) → has_rule t i ≡ true → RuleSaid t i (rule_at t i) (wish_at t i)
+unfolding has_rule rule_at
 rule_said t i h = go (spelled target_word t i) (spelled within_word t i) refl refl h
   where
     go : (s u : Bool) → spelled target_word t i ≡ s → spelled within_word t i ≡ u
-        → (pick s (target_at t (i + 7)) (pick u (within_at t (i + 7)) no_rule)).ok ≡ true
+        → pick s (has_count t (i + 7)) (pick u (has_within t (i + 7)) false) ≡ true
         → RuleSaid t i (pick s (target_at t (i + 7)) (pick u (within_at t (i + 7)) no_rule))
         (pick s (target (count_at t (i + 7)).value) (within (bits_at t (i + 7)).value (cap_at t (i + 7 + 17)).cap))
     go true u e f g = target_said t i e g
@@ -103,9 +104,9 @@ rule_said t i h = go (spelled target_word t i) (spelled within_word t i) refl re
     go false false e f g = absurd (false≢true g)
 
 -- the sizes, each with the tab behind it
-sizes_said : (t : List ℕ) (i : ℕ) → (sizes_at t i).ok ≡ true
+sizes_said : (t : List ℕ) (i : ℕ) → has_sizes t i ≡ true
     → Seg t i (sizes_at t i).next (count_text (sizes_at t i).m ++ (tab ∷ (count_text (sizes_at t i).n ++ (tab ∷ []))))
-unfolding sizes_at
+unfolding has_sizes sizes_at
 sizes_said t i h =
     let g = good-sizes t i h in
     let j : ℕ = suc (count_at t i).next in
@@ -118,17 +119,17 @@ record EditionSaid (t : List ℕ) (i : ℕ) (e : EditionField) : Type 0 where
   stands : Seg t i e.next (edition_text e.edition)
   fits : (1 ≤ e.edition) × (e.edition ≤ 2)
 
-edition_said : (t : List ℕ) (i : ℕ) → (edition_at t i).ok ≡ true → EditionSaid t i (edition_at t i)
-unfolding edition_at all_to
+edition_said : (t : List ℕ) (i : ℕ) → has_edition t i ≡ true → EditionSaid t i (edition_at t i)
+unfolding has_edition edition_at all_to
 edition_said t i h = go (spelled second_edition t i) refl h
   where
     second : EditionField
-    second = record { ok = true; edition = 2; next = i + 3 }
+    second = record { edition = 2; next = i + 3 }
 
     first : EditionField
-    first = record { ok = eqb (byte_at t i) newline; edition = 1; next = suc i }
+    first = record { edition = 1; next = suc i }
 
-    go : (s : Bool) → spelled second_edition t i ≡ s → (pick s second first).ok ≡ true → EditionSaid t i (pick s second first)
+    go : (s : Bool) → spelled second_edition t i ≡ s → pick s true (eqb (byte_at t i) newline) ≡ true → EditionSaid t i (pick s second first)
     go true e g = record { stands = word_seg second_edition t i (omega arith) refl e; fits = (omega arith, omega arith) }
     go false e g = record { stands = tested t i newline g (omega arith); fits = (omega arith, omega arith) }
 
@@ -140,8 +141,8 @@ pub record HeadSaid (t : List ℕ) (h : Head) (s : Sheet) : Type 0 where
   pub rule : h.rule ≡ rule_of s.wish
   pub allowance : h.allowance ≡ allowance_of s.wish
 
-pub head_said : (t : List ℕ) → (head_of t).ok ≡ true → HeadSaid t (head_of t) (sheet_of t)
-unfolding head_of all_to
+pub head_said : (t : List ℕ) → has_head t ≡ true → HeadSaid t (head_of t) (sheet_of t)
+unfolding has_head head_of all_to
 head_said t h =
     let g = good_head t h in
     let i : ℕ = (sizes_at t 5).next in
@@ -196,7 +197,7 @@ columns_said t (suc k) h =
     (rw p (column_said t (head_of t).n ((head_of t).next + k * line_long (head_of t).n) (h k (omega arith))))
 
 -- the sheet that a text says fits its fields
-said_fits : (t : List ℕ) → (head_of t).ok ≡ true → HeadSaid t (head_of t) (sheet_of t) → (head_of t).seed < 2 ^ 64 → Fits (sheet_of t)
+said_fits : (t : List ℕ) → has_head t ≡ true → HeadSaid t (head_of t) (sheet_of t) → (head_of t).seed < 2 ^ 64 → Fits (sheet_of t)
 said_fits t h a g =
     let z = sized t (head_of t) refl h in
     record {
@@ -213,7 +214,7 @@ seed_below : (t : List ℕ) → (head_of t).seed < 2 ^ 64
 unfolding head_of
 seed_below t = bits_below t (sizes_at t 5).next
 
-pub head_fits : (t : List ℕ) → (head_of t).ok ≡ true → Fits (sheet_of t)
+pub head_fits : (t : List ℕ) → has_head t ≡ true → Fits (sheet_of t)
 head_fits t h = said_fits t h (head_said t h) (seed_below t)
 
 -- What is taken is of the form: the text is that of the sheet that it says, and what is read is what the sheet says.

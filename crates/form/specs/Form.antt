@@ -4,7 +4,7 @@ use Rattle.seq.specs.Choice.{pick}
 use Rattle.seq.specs.Keep.{all_to}
 use Rattle.fields.specs.Bytes.{tab, newline, byte_at, spelled}
 use Rattle.fields.specs.Fields.{is_bits}
-use Rattle.head.specs.FirstLine.{head_of}
+use Rattle.head.specs.FirstLine.{has_head, head_of}
 use Rattle.head.specs.declared.Head.{Head}
 
 -- how long a column's line is, with n entries
@@ -41,6 +41,6 @@ wrong_after text h good = pick (ltb good h.m) (good + 2) (pick (eqb (length text
 -- the number of the first wrong line, from 1, or 0 where the sheet is of the form
 unfoldable pub wrong_line : List ℕ → ℕ
 wrong_line text =
-    pick (head_of text).ok
+    pick (has_head text)
     (wrong_after text (head_of text) (columns_from text (head_of text).n (head_of text).next (head_of text).m))
     1

@@ -16,7 +16,7 @@ use Rattle.seq.specs.Keep.{count}
 use Rattle.seq.proofs.Choosing.{both}
 use Rattle.seq.proofs.Keeping.{passes, count_same, counts}
 use Rattle.fields.specs.Bytes.{newline}
-use Rattle.head.specs.FirstLine.{head_of}
+use Rattle.head.specs.FirstLine.{has_head, head_of}
 use Rattle.head.proofs.Places.{head_next}
 use Rattle.form.specs.Form.{line_long, is_column}
 use Rattle.gathering.specs.Lines.{Lines, more, after, line_at}
@@ -39,7 +39,7 @@ pub record Reach (h : State) (room : List ℕ) : Type 0 where
 first-most : (first : List ℕ) → is_first first ≡ true → length first ≤ 84
 unfolding is_first
 first-most first h =
-    let a = both (head_of first).ok (eqb (head_of first).next (length first)) h in
+    let a = both (has_head first) (eqb (head_of first).next (length first)) h in
     let e : (head_of first).next ≡ length first = eqb-true (head_of first).next (length first) a.1 in
     omega (arith, head_next first)
 

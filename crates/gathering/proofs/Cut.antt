@@ -12,7 +12,7 @@ use lib.ListN.{length, take, drop, set, length-append, length-set, length-drop}
 use lib.Seq.{length-take-le, take_all, take-append-le, take-set-le, drop-set-add, take-suc-set}
 use Rattle.seq.specs.Choice.{pick}
 use Rattle.seq.specs.Lists.{part}
-use Rattle.head.specs.FirstLine.{head_of}
+use Rattle.head.specs.FirstLine.{has_head, head_of}
 use Rattle.head.proofs.Places.{head_next}
 use Rattle.form.specs.Form.{line_long}
 use Rattle.gathering.specs.Kept.{is_first, is_line}
@@ -27,7 +27,7 @@ long_first : (line : List ℕ) → 84 < length line → is_first line ≡ false
 unfolding is_first
 long_first line h =
     let p : eqb (head_of line).next (length line) ≡ false = ne_eqb (head_of line).next (length line) (λ e. omega (arith, head_next line)) in
-    rw p (and_false (head_of line).ok)
+    rw p (and_false (has_head line))
 
 -- and one that is longer than any column's is none
 long_line : (n : ℕ) (line : List ℕ) → n ≤ 64 → 1109 < length line → is_line n line ≡ false

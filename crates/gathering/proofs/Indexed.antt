@@ -12,7 +12,7 @@ use lib.Seq.{get_or_at}
 use Rattle.seq.specs.Choice.{pick}
 use Rattle.seq.specs.Keep.{count}
 use Rattle.seq.proofs.Choosing.{both}
-use Rattle.head.specs.FirstLine.{head_of}
+use Rattle.head.specs.FirstLine.{has_head, head_of}
 use Rattle.head.proofs.Good.{good_head, head_most}
 use Rattle.head.specs.Words.{thin_word}
 use Rattle.fields.proofs.Words.{spelled_at}
@@ -45,12 +45,12 @@ no_column n = ap (λ (t : Bool). t && is_column [] n 0) (ne_eqb 0 (line_long n) 
 
 pub no_first : is_first [] ≡ false
 unfolding is_first
-no_first = go ((head_of []).ok && eqb (head_of []).next 0) refl
+no_first = go (has_head [] && eqb (head_of []).next 0) refl
   where
-    go : (t : Bool) → ((head_of []).ok && eqb (head_of []).next 0) ≡ t → t ≡ false
+    go : (t : Bool) → (has_head [] && eqb (head_of []).next 0) ≡ t → t ≡ false
     go false e = refl
     go true e =
-        let a = both (head_of []).ok (eqb (head_of []).next 0) e in
+        let a = both (has_head []) (eqb (head_of []).next 0) e in
         let b : ◌≡◌ {A = ℕ} 0 116 = spelled_at thin_word [] 0 (good_head [] a.0).opened 0 (omega arith) in
         absurd (omega arith)
 
@@ -77,7 +77,7 @@ pub record Sizes (first : List ℕ) : Type 0 where
 pub first-sizes : (first : List ℕ) → is_first first ≡ true → Sizes first
 unfolding is_first
 first-sizes first h =
-    let a = both (head_of first).ok (eqb (head_of first).next (length first)) h in
+    let a = both (has_head first) (eqb (head_of first).next (length first)) h in
     let b = head_most first a.0 in
     record { columns = b.0; rows = b.1 }
 

@@ -1,5 +1,4 @@
 -- Laws of what is held: a line that is held in part, lines by their index, and what is held after a byte, a piece and a text.
-pub mod Firsts
 pub mod Cut
 pub mod Indexed
 pub mod Bytewise

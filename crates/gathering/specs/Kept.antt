@@ -1,13 +1,13 @@
 -- Which lines of a damaged sheet are kept.
 use Rattle.std.specs.Prelude.{ℕ, zero, suc, Bool, ◌&&◌, List, [], ◌++◌, eqb, leb, ltb, length}
 use Rattle.seq.specs.Choice.{pick}
-use Rattle.head.specs.FirstLine.{head_of}
+use Rattle.head.specs.FirstLine.{has_head, head_of}
 use Rattle.form.specs.Form.{line_long, is_column}
 use Rattle.gathering.specs.Lines.{Lines, line_at}
 
 -- a first line of the form, and nothing behind it
 unfoldable pub is_first : List ℕ → Bool
-is_first line = (head_of line).ok && eqb (head_of line).next (length line)
+is_first line = has_head line && eqb (head_of line).next (length line)
 
 -- a column's line of the form with n entries, and nothing behind it
 unfoldable pub is_line : ℕ → List ℕ → Bool

@@ -35,12 +35,12 @@ fn hold(room: &mut [u8], end: usize, long: usize, b: u8) -> usize
 }
 
 // What is held after the first line.
+#[tactic(auto, unfolding(crate::specs::Kept::is_first, crate::specs::Steps::first_state))]
 fn first_line(line: &[u8]) -> State
     ensures { result ≡ first_state line.now }
 {
-    let head = head_of(line);
-    if head.ok & (head.next == line.len()) {
-        return State {
+    match head_of(line) {
+        Some(head) if head.next == line.len() => State {
             lines: 1,
             long: 0,
             end: line.len(),
@@ -48,57 +48,49 @@ fn first_line(line: &[u8]) -> State
             good: true,
             m: head.m,
             n: head.n,
-        };
-    }
-    State {
-        lines: 1,
-        long: 0,
-        end: 0,
-        kept: 0,
-        good: false,
-        m: 0,
-        n: 0,
+        },
+        _ => State {
+            lines: 1,
+            long: 0,
+            end: 0,
+            kept: 0,
+            good: false,
+            m: 0,
+            n: 0,
+        },
     }
 }
 
 // Whether a line is a column's, of n entries.
+#[tactic(auto, unfolding(crate::specs::Kept::is_line))]
 fn is_line(line: &[u8], n: usize) -> bool
     requires { n ≤ 64 }
     ensures { result ≡ is_line n line.now }
 {
-    if line.len() != 21 + 17 * n {
-        return false;
-    }
-    is_column(line, n, 0)
+    line.len() == 21 + 17 * n && is_column(line, n, 0)
 }
 
 // What is held after a later line, and its mark.
+#[tactic(auto, unfolding(crate::specs::Steps::later_state))]
 fn later_line(s: State, line: &[u8], marks: &mut [u8]) -> State
     requires { LineLent s line.now marks.old }
     ensures { HeldLine s line.now marks.old result marks.new }
 {
     let number = s.lines;
-    let fits = s.good & (number <= s.m);
-    if fits & is_line(line, s.n) {
+    if s.good && number <= s.m && is_line(line, s.n) {
         marks[number] = 1;
         return State {
-            lines: s.lines + 1,
+            lines: number + 1,
             long: 0,
             end: s.end + line.len(),
             kept: s.kept + 1,
-            good: s.good,
-            m: s.m,
-            n: s.n,
+            ..s
         };
     }
     State {
-        lines: s.lines + 1,
+        lines: number + 1,
         long: 0,
-        end: s.end,
-        kept: s.kept,
-        good: s.good,
-        m: s.m,
-        n: s.n,
+        ..s
     }
 }
 
@@ -110,15 +102,7 @@ fn take_byte(s: State, b: u8, room: &mut [u8], marks: &mut [u8]) -> State
     let start = s.end;
     let long = hold(&mut room[..], start, s.long, b);
     if b != b'\n' {
-        return State {
-            lines: s.lines,
-            long,
-            end: s.end,
-            kept: s.kept,
-            good: s.good,
-            m: s.m,
-            n: s.n,
-        };
+        return State { long, ..s };
     }
     let end = start + long;
     if s.lines == 0 {
@@ -133,10 +117,8 @@ pub fn feed(s: State, piece: &[u8], room: &mut [u8], marks: &mut [u8]) -> State
     ensures { Took piece.now s room.old marks.old result room.new marks.new }
 {
     let mut now = s;
-    let mut i = 0usize;
-    while i < piece.len() {
-        now = take_byte(now, piece[i], &mut room[..], &mut marks[..]);
-        i += 1;
+    for b in piece {
+        now = take_byte(now, *b, &mut room[..], &mut marks[..]);
     }
     now
 }
@@ -145,11 +127,7 @@ pub fn feed(s: State, piece: &[u8], room: &mut [u8], marks: &mut [u8]) -> State
 pub fn start(marks: &mut [u8]) -> State
     ensures { (result ≡ start_state) × (marks.new ≡ repeated 0 (length marks.old)) }
 {
-    let mut i = 0usize;
-    while i < marks.len() {
-        marks[i] = 0;
-        i += 1;
-    }
+    marks.fill(0);
     State {
         lines: 0,
         long: 0,

@@ -43,9 +43,9 @@ rule_next t i =
     pick_rule (spelled target_word t i) _ _ (i + 35) (omega (arith, count_next t (i + 7)))
     (pick_rule (spelled within_word t i) _ _ (i + 35) (omega (arith, within_next t (i + 7))) (omega arith))
 
-pub sizes-next : (t : List ℕ) (i : ℕ) → (sizes_at t i).next ≤ i + 24
+pub sizes_next : (t : List ℕ) (i : ℕ) → (sizes_at t i).next ≤ i + 24
 unfolding sizes_at
-sizes-next t i = omega (arith, count_next t i, count_next t (suc (count_at t i).next))
+sizes_next t i = omega (arith, count_next t i, count_next t (suc (count_at t i).next))
 
 pub edition_next : (t : List ℕ) (i : ℕ) → (edition_at t i).next ≤ i + 3
 unfolding edition_at
@@ -56,4 +56,7 @@ pub head_next : (t : List ℕ) → (head_of t).next ≤ 84
 unfolding head_of
 head_next t =
     let i : ℕ = (sizes_at t 5).next in
-    omega (arith, sizes-next t 5, rule_next t (i + 17), edition_next t (rule_at t (i + 17)).next)
+    omega (arith, sizes_next t 5, rule_next t (i + 17), edition_next t (rule_at t (i + 17)).next)
+
+-- how far each part reaches that others follow
+pub ruleset reaches = (sizes_next, rule_next)

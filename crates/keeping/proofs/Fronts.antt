@@ -23,7 +23,7 @@ use Rattle.fields.proofs.Puts.{on_two}
 use Rattle.fields.proofs.Numerals.{inside}
 use Rattle.fields.proofs.Longer.{count_longer}
 use Rattle.head.specs.Words.{thin_word}
-use Rattle.head.specs.FirstLine.{head_of}
+use Rattle.head.specs.FirstLine.{has_head, head_of}
 use Rattle.head.proofs.Good.{good_head, good-sizes}
 use Rattle.keeping.specs.Words.{bad_word}
 use Rattle.gathering.specs.Lines.{Lines, line_at}
@@ -45,32 +45,6 @@ pub good_wrote : {out o o' o'' : List ℕ} {a b r : ℕ} (kept : ℕ) (sheet bac
 good_wrote kept sheet back h g p q s e =
     on_two p (on_two q (rw e at s) (omega (arith, p.ends, length-count kept, width_most kept))) (omega arith)
 
--- by whether the first line is good and a column is left
-module _ (s : State) (room : List ℕ) where
-  pub front_bad : s.good ≡ false → note_text bad_word 1 ≡ front_in s room
-  unfolding front_in
-  front_bad h = rw h
-
-  pub front_none : s.good ≡ true → none_in s ≡ true → note_text bad_word 2 ≡ front_in s room
-  unfolding front_in
-  front_none h g = rw (h, g)
-
-  pub front_good : s.good ≡ true → none_in s ≡ false → corrected (take s.end room) s.kept ≡ front_in s room
-  unfolding front_in
-  front_good h g = rw (h, g)
-
-  pub judged_bad : s.good ≡ false → 0 ≡ judged_in s
-  unfolding judged_in
-  judged_bad h = rw h
-
-  pub judged_none : s.good ≡ true → none_in s ≡ true → 0 ≡ judged_in s
-  unfolding judged_in
-  judged_none h g = rw (h, g)
-
-  pub judged-good : s.good ≡ true → none_in s ≡ false → lines_in s - 1 ≡ judged_in s
-  unfolding judged_in
-  judged-good h g = rw (h, g)
-
 -- of a piece something is held, of none nothing
 some-held : (xs : List ℕ) → 0 < length xs → 0 < length (take most xs)
 some-held [] q = absurd (omega arith)
@@ -84,7 +58,7 @@ none_held (x ∷ xs) q = absurd (omega arith)
 count_inside : (first : List ℕ) → is_first first ≡ true → (count_at first 5).next < length first
 unfolding is_first
 count_inside first h =
-    let a = both (head_of first).ok (eqb (head_of first).next (length first)) h in
+    let a = both (has_head first) (eqb (head_of first).next (length first)) h in
     let z = good-sizes first 5 (good_head first a.0).sizes in
     let t : byte_at first (count_at first 5).next ≡ 9 = eqb-true (byte_at first (count_at first 5).next) tab z.parted in
     inside first (count_at first 5).next (omega arith)

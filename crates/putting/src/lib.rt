@@ -13,7 +13,11 @@ fn digit_for(d: u64) -> u8
     requires { d ≤ 15 }
     ensures { result ≡ digit_for d }
 {
-    if d < 10 { 48 + d as u8 } else { 55 + d as u8 }
+    if d < 10 {
+        b'0' + d as u8
+    } else {
+        b'A' + (d - 10) as u8
+    }
 }
 
 // The last digits of a number, as many as there is room for.
@@ -22,11 +26,9 @@ fn write_digits(a: &mut [u8], x: u64, base: u64)
     ensures { a.new ≡ digits_of base x (length a.old) }
 {
     let mut rest = x;
-    let mut k = a.len();
-    while 0 < k {
-        k -= 1;
+    for k in (0..a.len()).rev() {
         a[k] = digit_for(rest % base);
-        rest = rest / base;
+        rest /= base;
     }
 }
 
@@ -79,14 +81,12 @@ pub fn put_note(out: &mut [u8], at: usize, word: &[u8], number: u64) -> usize
     put_word(out, b, b"\n")
 }
 
-// b in the place of a, which is as long.
+// b in the place of a, which is as long, by a loop: `copy_from_slice` would want memmove of the C library.
 pub fn copy_bytes(a: &mut [u8], b: &[u8])
     requires { length a.old ≡ length b.now }
     ensures { a.new ≡ b.now }
 {
-    let mut i = 0usize;
-    while i < a.len() {
-        a[i] = b[i];
-        i += 1;
+    for (i, x) in a.iter_mut().enumerate() {
+        *x = b[i];
     }
 }

@@ -1,15 +1,15 @@
 // The reader of sheets as bits: doubles come out as their bits, so that every NaN keeps its pattern.
 #![tactic(auto)]
 
-ghost use Rattle.std.specs.Prelude.{◌≡◌, ◌++◌, ◌*◌, ◌≤◌, length, drop};
+ghost use Rattle.std.specs.Prelude.{◌≡◌, ◌++◌, ◌*◌, ◌≤◌, None, Option, Some, length, drop};
 ghost use Rattle.seq.specs.Lists.{tabulate};
 ghost use Rattle.fields.specs.Fields.{bits_at};
 ghost use Rattle.form.specs.Reading.{weight_place, entry_place};
 ghost use Rattle.readback.specs.ReadingBack.{cap_number, rule_number, cap_limit, limit_of, first_of, ReadBack};
 
 use contents::{entry_bits, weight_bits};
-use head::{Head, head_of};
-use lines::wrong_line;
+use head::Head;
+use lines::sheet_head;
 use rules::Rule;
 
 // The number of a rule with this cap.
@@ -18,7 +18,7 @@ fn cap_number(cap: Option<usize>) -> u64
 {
     match cap {
         None => 1,
-        Some(c) => 2,
+        Some(_) => 2,
     }
 }
 
@@ -27,8 +27,8 @@ fn rule_number(rule: Rule) -> u64
     ensures { result ≡ rule_number rule }
 {
     match rule {
-        Rule::Target(t) => 0,
-        Rule::Within { allowance, cap } => cap_number(cap),
+        Rule::Target(_) => 0,
+        Rule::Within { cap, .. } => cap_number(cap),
     }
 }
 
@@ -48,7 +48,7 @@ fn limit_of(rule: Rule) -> u64
 {
     match rule {
         Rule::Target(t) => t as u64,
-        Rule::Within { allowance, cap } => cap_limit(cap),
+        Rule::Within { cap, .. } => cap_limit(cap),
     }
 }
 
@@ -61,10 +61,9 @@ fn read_first(first: &mut [u64], head: Head)
     first[1] = head.n as u64;
     first[2] = head.seed;
     first[3] = head.edition as u64;
+    first[4] = rule_number(head.rule);
     first[5] = head.allowance;
-    let rule = head.rule;
-    first[4] = rule_number(rule);
-    first[6] = limit_of(rule);
+    first[6] = limit_of(head.rule);
 }
 
 // Reads the bits of the weights of columns that begin at a place.
@@ -73,10 +72,8 @@ fn read_weights(weights: &mut [u64], text: &[u8], start: usize, n: usize)
     ensures { weights.new ≡ tabulate (λ j. (bits_at text.now (weight_place start n j)).value)
         (length weights.old) }
 {
-    let mut j = 0usize;
-    while j < weights.len() {
-        weights[j] = weight_bits(text, start, n, j);
-        j += 1;
+    for (j, weight) in weights.iter_mut().enumerate() {
+        *weight = weight_bits(text, start, n, j);
     }
 }
 
@@ -86,10 +83,8 @@ fn read_matrix(matrix: &mut [u64], text: &[u8], start: usize, n: usize)
     ensures { matrix.new ≡ tabulate (λ k. (bits_at text.now (entry_place start n k)).value)
         (length matrix.old) }
 {
-    let mut k = 0usize;
-    while k < matrix.len() {
-        matrix[k] = entry_bits(text, start, n, k);
-        k += 1;
+    for (k, entry) in matrix.iter_mut().enumerate() {
+        *entry = entry_bits(text, start, n, k);
     }
 }
 
@@ -98,14 +93,13 @@ pub fn read_sheet(text: &[u8], matrix: &mut [u64], weights: &mut [u64], first: &
     ensures { ReadBack text.now matrix.old weights.old first.old result matrix.new
         weights.new first.new }
 {
-    if (matrix.len() < 2048) | ((weights.len() < 32) | (first.len() < 7)) {
-        return 0xffff_ffff_ffff_ffff;
+    if matrix.len() < 2048 || weights.len() < 32 || first.len() < 7 {
+        return u64::MAX;
     }
-    let line = wrong_line(text);
-    if line != 0 {
-        return line as u64;
-    }
-    let head = head_of(text);
+    let head = match sheet_head(text) {
+        Ok(head) => head,
+        Err(line) => return line as u64,
+    };
     let size = head.m * head.n;
     read_matrix(&mut matrix[..size], text, head.next, head.n);
     read_weights(&mut weights[..head.m], text, head.next, head.n);

@@ -18,7 +18,7 @@ fn is_kept(s: State, marks: &[u8], j: usize) -> bool
     requires { (s.m ≤ 32) × (33 ≤ length marks.now) }
     ensures { result ≡ kept_in s marks.now j }
 {
-    if j <= s.m { marks[j] != 0 } else { false }
+    j <= s.m && marks[j] != 0
 }
 
 // Writes the line of a line that is lost, and nothing of one that is kept.
@@ -38,12 +38,10 @@ pub fn put_losses(out: &mut [u8], at: usize, s: State, marks: &[u8], a: usize, k
     ensures { WroteOn (lost_text (kept_in s marks.now) a k) at out.old result out.new }
 {
     let mut end = at;
-    let mut i = 0usize;
-    while i < k {
+    for i in 0..k {
         let j = a + i;
         let kept = is_kept(s, marks, j);
         end = put_lost(&mut out[..], end, kept, (j + 1) as u64);
-        i += 1;
     }
     end
 }
@@ -64,15 +62,13 @@ fn losses_fit(s: State, marks: &[u8], a: usize, k: usize, room: usize) -> bool
     ensures { result ≡ leb (length (lost_text (kept_in s marks.now) a k)) room }
 {
     let mut left = room;
-    let mut i = 0usize;
-    while i < k {
+    for i in 0..k {
         let j = a + i;
         let wide = lost_long(is_kept(s, marks, j), (j + 1) as u64);
         if left < wide {
             return false;
         }
         left -= wide;
-        i += 1;
     }
     true
 }

@@ -13,7 +13,7 @@ use Rattle.seq.specs.Keep.{count}
 use Rattle.seq.proofs.Choosing.{both}
 use Rattle.fields.specs.Digits.{digits_of}
 use Rattle.fields.specs.Texts.{width_in, note_text}
-use Rattle.head.specs.FirstLine.{head_of}
+use Rattle.head.specs.FirstLine.{has_head, head_of}
 use Rattle.head.specs.declared.Head.{Head}
 use Rattle.form.specs.Form.{end_of, columns_from, wrong_after, wrong_line}
 use Rattle.form.specs.Sheets.{head_text, sheet_of}
@@ -53,7 +53,7 @@ stays s [] j h = refl
 stays s (b ∷ text) j h = stays (more s b) text j (stays_one s b j h).0 ∙ (stays_one s b j h).1
 
 -- the first line of a text that the reader takes it from
-first_line_is : (text : List ℕ) → (head_of text).ok ≡ true → line_at (after no_lines text) 0 ≡ head_text (sheet_of text)
+first_line_is : (text : List ℕ) → has_head text ≡ true → line_at (after no_lines text) 0 ≡ head_text (sheet_of text)
 first_line_is text h =
     let line : List ℕ = head_text (sheet_of text) in
     let e : line ++ drop (length line) text ≡ text =
@@ -64,17 +64,17 @@ first_line_is text h =
     ∙ stays (with_line no_lines line) (drop (length line) text) 0 (omega arith)
 
 -- a good line with more behind it is read as the first
-more-behind : (line rest text : List ℕ) → is_first line ≡ true → line ++ rest ≡ text → (head_of text).ok ≡ true
+more-behind : (line rest text : List ℕ) → is_first line ≡ true → line ++ rest ≡ text → has_head text ≡ true
 more-behind line rest text h e =
     let f = first_is line h in
     let t : head_text (sheet_of line) ++ rest ≡ text = ap (λ (x : List ℕ). x ++ rest) (sym f.1) ∙ e in
     let w : Seg text 0 (length text) (head_text (sheet_of line) ++ rest) = subst (λ (x : List ℕ). Seg text 0 (length text) x) (sym t) (whole_seg text) in
-    ap (λ (x : Head). x.ok) (head_read (sheet_of line) (head_fits line f.0) (seg_first (head_text (sheet_of line)) rest w))
+    (head_read (sheet_of line) (head_fits line f.0) (seg_first (head_text (sheet_of line)) rest w)).0
 
 -- The first line is good exactly where the reader finds it so.
-pub first_is_the_readers : (text : List ℕ) → is_first (line_at (after no_lines text) 0) ≡ (head_of text).ok
+pub first_is_the_readers : (text : List ℕ) → is_first (line_at (after no_lines text) 0) ≡ has_head text
 unfolding joined
-first_is_the_readers text = go (head_of text).ok (is_first line) refl refl
+first_is_the_readers text = go (has_head text) (is_first line) refl refl
   where
     line : List ℕ
     line = line_at (after no_lines text) 0
@@ -86,7 +86,7 @@ first_is_the_readers text = go (head_of text).ok (is_first line) refl refl
         at (yes l) = l
         at (no l) = absurd (false≢true (sym (ap is_first (no_line (after no_lines text) 0 (omega arith)) ∙ no_first) ∙ h))
 
-    go : (a b : Bool) → (head_of text).ok ≡ a → is_first line ≡ b → b ≡ a
+    go : (a b : Bool) → has_head text ≡ a → is_first line ≡ b → b ≡ a
     go true true e f = refl
     go false false e f = refl
     go true false e f =
@@ -104,9 +104,9 @@ wrong_later text good = go (ltb good (head_of text).m) (eqb (length text) (end_o
     go false true e = absurd (omega arith)
     go false false e = absurd (omega arith)
 
-wrong_first : (text : List ℕ) → wrong_line text ≡ 1 → (head_of text).ok ≡ false
+wrong_first : (text : List ℕ) → wrong_line text ≡ 1 → has_head text ≡ false
 unfolding wrong_line
-wrong_first text h = go (head_of text).ok h
+wrong_first text h = go (has_head text) h
   where
     good : ℕ
     good = columns_from text (head_of text).n (head_of text).next (head_of text).m
@@ -159,7 +159,7 @@ bad_1_exactly text = (
     s : Lines
     s = after no_lines text
 
-    go : (a b : Bool) → is_first (line_at s 0) ≡ a → none_left s ≡ b → salvaged s ≡ note_text bad_word 1 → (head_of text).ok ≡ false
+    go : (a b : Bool) → is_first (line_at s 0) ≡ a → none_left s ≡ b → salvaged s ≡ note_text bad_word 1 → has_head text ≡ false
     go false b f g e = sym (first_is_the_readers text) ∙ f
     go true true f g e = absurd (bad_differ (sym e ∙ written_none s f g))
     go true false f g e = absurd (good_not_bad s (lost_text (kept s) 1 (many s - 1)) 1 (sym (written-good s f g) ∙ e))
@@ -172,14 +172,14 @@ bad_2_exactly text = (λ e. go (is_first (line_at s 0)) (none_left s) refl refl 
     s : Lines
     s = after no_lines text
 
-    same : (head_of text).ok ≡ true → (head_of (line_at s 0)).m ≡ (head_of text).m
+    same : has_head text ≡ true → (head_of (line_at s 0)).m ≡ (head_of text).m
     same h = ap (λ (x : List ℕ). (head_of x).m) (first_line_is text h) ∙ (first_good (sheet_of text) (head_fits text h)).1
 
     go : (a b : Bool) → is_first (line_at s 0) ≡ a → none_left s ≡ b → salvaged s ≡ note_text bad_word 2 → NoColumn text s
     go false b f g e = absurd (bad_differ (sym (written_bad s f) ∙ e))
     go true false f g e = absurd (good_not_bad s (lost_text (kept s) 1 (many s - 1)) 2 (sym (written-good s f g) ∙ e))
     go true true f g e =
-        let ok : (head_of text).ok ≡ true = sym (first_is_the_readers text) ∙ f in
+        let ok : has_head text ≡ true = sym (first_is_the_readers text) ∙ f in
         let p = both (ltb 0 (head_of (line_at s 0)).m) (eqb (count (kept s) (many s)) 0) g in
         record {
           first = λ w. false≢true (sym (wrong_first text w) ∙ ok);
@@ -187,12 +187,12 @@ bad_2_exactly text = (λ e. go (is_first (line_at s 0)) (none_left s) refl refl 
           none = eqb-true (count (kept s) (many s)) 0 p.1;
         }
 
-    good : (NoColumn text s) → (t : Bool) → (head_of text).ok ≡ t → t ≡ true
+    good : (NoColumn text s) → (t : Bool) → has_head text ≡ t → t ≡ true
     good n true e = refl
     good n false e = absurd (n.first (sym (first_wrong text (head_of text) refl e)))
 
     back : NoColumn text s → salvaged s ≡ note_text bad_word 2
     back n =
-        let ok : (head_of text).ok ≡ true = good n (head_of text).ok refl in
+        let ok : has_head text ≡ true = good n (has_head text) refl in
         let l : ltb 0 (head_of (line_at s 0)).m ≡ true = lt-ltb 0 (head_of (line_at s 0)).m (omega (arith, same ok, n.above)) in
         written_none s (first_is_the_readers text ∙ ok) (rw (l, eq-eqb (count (kept s) (many s)) 0 n.none))

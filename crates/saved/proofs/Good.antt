@@ -21,7 +21,7 @@ use Rattle.fields.specs.Texts.{bits_text, count_text}
 use Rattle.fields.specs.declared.Field.{Field}
 use Rattle.fields.proofs.BitsBack.{bits_below}
 use Rattle.head.specs.Words.{thin_word}
-use Rattle.head.specs.FirstLine.{head_of}
+use Rattle.head.specs.FirstLine.{has_head, head_of}
 use Rattle.form.specs.Form.{line_long, is_column}
 use Rattle.form.specs.Sheets.{Sheet, wish_text, edition_text, first_line, head_text, column_text, columns_text, sheet_text, Fits, sheet_of, Says}
 use Rattle.form.proofs.Segments.{Seg, seg_first, seg_rest, seg_byte, seg_count, seg_whole, whole_seg}
@@ -41,18 +41,18 @@ corrected_is s h k =
     let rest : List ℕ = tab ∷ (count_text s.n ++ (tab ∷ (bits_text s.seed ++ (tab ∷ (wish_text s.wish ++ edition_text s.edition))))) in
     let a : Seg t 5 (length t) (count_text s.m ++ rest) = seg_rest thin_word (count_text s.m ++ rest) (whole_seg t) in
     let b : Seg t (5 + length (count_text s.m)) (length t) rest = seg_rest (count_text s.m) rest a in
-    let c : count_at t 5 ≡ record { ok = true; value = s.m; next = 5 + length (count_text s.m) } =
-    seg_count s.m (omega arith) (seg_first (count_text s.m) rest a) (ap is_digit (seg_byte b)) in
+    let c : count_at t 5 ≡ record { value = s.m; next = 5 + length (count_text s.m) } =
+    (seg_count s.m (omega arith) (seg_first (count_text s.m) rest a) (ap is_digit (seg_byte b))).1 in
     let n : (count_at t 5).next ≡ 5 + length (count_text s.m) = ap (λ (f : Field). f.next) c in
     let d : drop (5 + length (count_text s.m)) t ≡ rest =
     drop_at (thin_word ++ count_text s.m) rest (5 + length (count_text s.m)) (omega arith) in
     ap (λ (x : List ℕ). thin_word ++ (count_text k ++ x)) (ap (λ (x : ℕ). drop x t) n ∙ d)
 
 -- a good first line is the text of what it says
-pub first_is : (first : List ℕ) → is_first first ≡ true → ((head_of first).ok ≡ true) × (first ≡ head_text (sheet_of first))
+pub first_is : (first : List ℕ) → is_first first ≡ true → (has_head first ≡ true) × (first ≡ head_text (sheet_of first))
 unfolding is_first
 first_is first h =
-    let a = both (head_of first).ok (eqb (head_of first).next (length first)) h in
+    let a = both (has_head first) (eqb (head_of first).next (length first)) h in
     let e : (head_of first).next ≡ length first = eqb-true (head_of first).next (length first) a.1 in
     (a.0, seg_whole first (head_text (sheet_of first)) (head_of first).next (head_said first a.0).stands (sym e))
 

@@ -29,7 +29,7 @@ pub first_good : (s : Sheet) → Fits s → (is_first (head_text s) ≡ true) ×
 unfolding is_first
 first_good s fit =
     let e = head_read s fit (whole_seg (head_text s)) in
-    (rw e (eq-eqb (length (head_text s)) (length (head_text s)) refl), ap (λ (h : Head). h.m) e, ap (λ (h : Head). h.n) e)
+    (rw (e.0, e.1) (eq-eqb (length (head_text s)) (length (head_text s)) refl), ap (λ (h : Head). h.m) e.1, ap (λ (h : Head). h.n) e.1)
 
 -- the text of a column's line is one
 line_good : (n w : ℕ) (e : ℕ → ℕ) → is_column (column_text n w e) n 0 ≡ true → is_line n (column_text n w e) ≡ true

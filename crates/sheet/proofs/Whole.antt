@@ -23,14 +23,13 @@ use Rattle.stages.proofs.Lengths.{length-normalized, length-stage}
 use Rattle.head.specs.declared.Head.{Head}
 use Rattle.head.specs.declared.EditionField.{EditionField}
 use Rattle.head.specs.Words.{second_edition}
-use Rattle.fields.specs.Bytes.{byte_at, spelled, newline}
+use Rattle.fields.specs.Bytes.{spelled}
 use Rattle.faults.specs.Faults.{edition_fault}
 use Rattle.head.specs.FirstLine.{sizes_at, rule_at, edition_at, head_of}
 use Rattle.form.specs.Form.{wrong_line}
 use Rattle.form.specs.Reading.{double_at, weight_place, weights_of, matrix_of}
-use Rattle.form.proofs.Lines.{right}
+use Rattle.form.proofs.Lines.{sized_right}
 use Rattle.form.proofs.LongText.{long_text_is_wrong, first_bytes_same_line}
-use Rattle.form.proofs.Verdicts.{Sized, sized}
 use Rattle.fields.specs.Texts.{note_text}
 use Rattle.fields.specs.Steps.{WroteOn}
 use Rattle.answering.specs.Words.{bad_word}
@@ -41,17 +40,12 @@ use Rattle.answering.proofs.Puts.{front_of}
 use Rattle.answering.proofs.Lines.{length_answer}
 use Rattle.draw.specs.declared.SplitMix64.{SplitMix64}
 
--- the sizes of a sheet of the form
-pub sizes_of_lem : (t : List ℕ) (h : Head) (line : ℕ) → line ≡ wrong_line t → line ≡ 0 → h ≡ head_of t → Sized h
-sizes_of_lem t h line e z g = sized t h g (ap (λ (k : Head). k.ok) g ∙ (right t (sym e ∙ z)).first)
-
 -- the edition that a first line names is known
 pub edition_known : (t : List ℕ) → edition_fault (head_of t).edition ≡ 0
 unfolding head_of edition_at
 edition_known t =
     let i : ℕ = (rule_at t ((sizes_at t 5).next + 17)).next in
-    picked (spelled second_edition t i) (record { ok = true; edition = 2; next = i + 3 })
-    (record { ok = eqb (byte_at t i) newline; edition = 1; next = suc i }) refl refl
+    picked (spelled second_edition t i) (record { edition = 2; next = i + 3 }) (record { edition = 1; next = suc i }) refl refl
   where
     picked : (b : Bool) (x y : EditionField) → edition_fault x.edition ≡ 0 → edition_fault y.edition ≡ 0
         → edition_fault (pick b x y).edition ≡ 0
@@ -59,21 +53,22 @@ edition_known t =
     picked false x y p q = q
 
 -- what a sheet of the form asks for, with what else is known of the buffer
-pub sheet_asks : {Room : Type 0} (t : List ℕ) (h : Head) (line : ℕ) → line ≡ wrong_line t → line ≡ 0 → h ≡ head_of t → Room
+pub sheet_asks : {Room : Type 0} (t : List ℕ) (h : Head) → h ≡ head_of t → wrong_line t ≡ 0 → Room
     → (h.m ≤ 32) × (h.n ≤ 64) × (h.next ≤ 1000) × Room × (edition_fault h.edition ≡ 0)
-sheet_asks t h line e z g room =
-    let s = sizes_of_lem t h line e z g in
+sheet_asks t h g z room =
+    let s = sized_right t h g z in
     (s.columns, s.rows, omega (arith, s.starts), room, rw g (edition_known t))
 
 -- a sheet with a wrong line and one of the form, whatever one of the form is answered with
-module _ (good : Head → List ℕ) (t : List ℕ) (line : ℕ) {out : List ℕ} {r : ℕ} {out' : List ℕ} (e : line ≡ wrong_line t) where
-  pub answered_bad : (line ≡ 0 → ⊥) → WroteOn (note_text bad_word line) 0 out r out' → 1342 ≤ length out
+module _ (good : Head → List ℕ) (t : List ℕ) {out : List ℕ} {r : ℕ} {out' : List ℕ} where
+  pub answered_bad : (line : ℕ) → line ≡ wrong_line t → 0 < line → WroteOn (note_text bad_word line) 0 out r out' → 1342 ≤ length out
       → Wrote (pick (eqb (wrong_line t) 0) (good (head_of t)) (note_text bad_word (wrong_line t))) out r out'
-  answered_bad h g room = rw (← e, ne_eqb line 0 h) (front_of g (omega (arith, length_note bad_word line, width_most line)))
+  answered_bad line e h g room =
+      rw (← e, ne_eqb line 0 (λ z. omega arith)) (front_of g (omega (arith, length_note bad_word line, width_most line)))
 
-  pub answered_good : (h : Head) → line ≡ 0 → h ≡ head_of t → Wrote (good h) out r out'
+  pub answered_good : (h : Head) → h ≡ head_of t → wrong_line t ≡ 0 → Wrote (good h) out r out'
       → Wrote (pick (eqb (wrong_line t) 0) (good (head_of t)) (note_text bad_word (wrong_line t))) out r out'
-  answered_good h z g w = rw (eq-eqb (wrong_line t) 0 (sym e ∙ z)) (rw g at w)
+  answered_good h g z w = rw (eq-eqb (wrong_line t) 0 z) (rw g at w)
 
 -- the text ends within the buffer
 pub wrote_room : (t out : List ℕ) (r : ℕ) (out' : List ℕ) → Wrote t out r out' → r ≤ length out'
@@ -118,7 +113,7 @@ answer_most t = go (eqb (wrong_line t) 0) refl
     go : (s : Bool) → eqb (wrong_line t) 0 ≡ s
         → length (pick s (job_text (head_of t).rule (source_of (head_of t)) (matrix_of t (head_of t)) (head_of t).m (head_of t).n
         (weights_of t (head_of t))) (note_text bad_word (wrong_line t))) ≤ 1342
-    go true e = length_job t (head_of t) (sizes_of_lem t (head_of t) (wrong_line t) refl (eqb-true (wrong_line t) 0 e) refl).columns
+    go true e = length_job t (head_of t) (sized_right t (head_of t) refl (eqb-true (wrong_line t) 0 e)).columns
     go false e = omega (arith, length_note bad_word (wrong_line t), width_most (wrong_line t))
 
 -- so a buffer of 1342 bytes always gets the answer

@@ -6,8 +6,7 @@ ghost use Rattle.answering.specs.Steps.{Wrote};
 ghost use Rattle.sheet.specs.Answer.{sheet_answer, Answered};
 
 use asking::answer_sheet;
-use head::head_of;
-use lines::wrong_line;
+use lines::sheet_head;
 use putting::{copy_bytes, put_note};
 
 // Writes the answer of a sheet in a buffer that is long enough for any.
@@ -15,11 +14,10 @@ fn answer_text(out: &mut [u8], text: &[u8]) -> usize
     requires { 1342 ≤ length out.old }
     ensures { Wrote (sheet_answer text.now) out.old result out.new }
 {
-    let line = wrong_line(text);
-    if line != 0 {
-        return put_note(out, 0, b"bad\t", line as u64);
+    match sheet_head(text) {
+        Ok(head) => answer_sheet(out, text, head),
+        Err(line) => put_note(out, 0, b"bad\t", line as u64),
     }
-    answer_sheet(out, text, head_of(text))
 }
 
 // Answers a sheet in a lent buffer, of which 1342 bytes are always enough, and says how long the answer is. Where it does not fit,

@@ -26,10 +26,8 @@ pub fn put_lines(out: &mut [u8], at: usize, rows: &[u32], changes: &[f64]) -> us
         out.new }
 {
     let mut end = at;
-    let mut k = 0usize;
-    while k < rows.len() {
-        end = put_line(&mut out[..], end, rows[k], changes[k]);
-        k += 1;
+    for (row, change) in rows.iter().zip(changes) {
+        end = put_line(&mut out[..], end, *row, *change);
     }
     end
 }

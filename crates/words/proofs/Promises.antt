@@ -26,7 +26,8 @@ use Rattle.keeping.specs.Saved.{Laid}
 use Rattle.answering.specs.Words.{bad_word}
 use Rattle.asking.specs.Jobs.{sheet_fault, job_text, source_of}
 use Rattle.sheet.specs.Answer.{sheet_answer}
-use Rattle.sheet.proofs.Whole.{sizes_of_lem, length_job}
+use Rattle.form.proofs.Lines.{sized_right}
+use Rattle.sheet.proofs.Whole.{length_job}
 use Rattle.wordlines.specs.Lines.{words_of}
 use Rattle.words.specs.Words.{moved_text, moved_answer}
 use Rattle.wordlines.proofs.Listing.{shorter, length_words}
@@ -63,7 +64,7 @@ answer_most t = go (eqb (wrong_line t) 0) refl
         → length (pick s (moved_text (head_of t).rule (source_of (head_of t)) (matrix_of t (head_of t)) (head_of t).m (head_of t).n
         (weights_of t (head_of t))) (note_text bad_word (wrong_line t))) ≤ 4094
     go true e =
-        let sized = sizes_of_lem t (head_of t) (wrong_line t) refl (eqb-true (wrong_line t) 0 e) refl in
+        let sized = sized_right t (head_of t) refl (eqb-true (wrong_line t) 0 e) in
         length_moved t (head_of t) sized.columns sized.rows
     go false e = omega (arith, length_note bad_word (wrong_line t), width_most (wrong_line t))
 

@@ -13,8 +13,8 @@ ghost use Rattle.words.specs.Words.{moved_text, moved_answer};
 
 use answering::put_answer;
 use contents::{read_matrix, read_weights};
-use head::{Head, head_of};
-use lines::wrong_line;
+use head::Head;
+use lines::sheet_head;
 use listing::put_moves;
 use putting::{copy_bytes, put_note};
 use rules::Rule;
@@ -60,7 +60,8 @@ fn answer_job(
     put_moves(out, end, matrix, m, n, weights, &output[..])
 }
 
-// Reads the columns of a sheet of the form, and answers its job.
+// Reads the columns of a sheet of the form, and answers its job. It differs from the one of `asking` only in the job that it calls; a closure
+// in that job's place would repeat its nine arguments and both clauses.
 fn answer_sheet(out: &mut [u8], text: &[u8], head: Head) -> usize
     requires { (head.m ≤ 32) × (head.n ≤ 64) × (head.next ≤ 1000) × (4094 ≤ length out.old) × (edition_fault head.edition ≡ 0) }
     ensures { Wrote (moved_text head.rule (source_of head) (matrix_of text.now head) head.m head.n
@@ -93,11 +94,10 @@ fn answer_text(out: &mut [u8], text: &[u8]) -> usize
     requires { 4094 ≤ length out.old }
     ensures { Wrote (moved_answer text.now) out.old result out.new }
 {
-    let line = wrong_line(text);
-    if line != 0 {
-        return put_note(out, 0, b"bad\t", line as u64);
+    match sheet_head(text) {
+        Ok(head) => answer_sheet(out, text, head),
+        Err(line) => put_note(out, 0, b"bad\t", line as u64),
     }
-    answer_sheet(out, text, head_of(text))
 }
 
 // Answers a sheet in a lent buffer, of which 4094 bytes are always enough, and says how long the answer is. Where it does not fit,

@@ -1,9 +1,8 @@
--- What is refused before the text is known: each of the numbers, and what an accepted sheet has.
-use borrow.Author.Tests.{lt-ltb, le-ltb, ltb-false, eqb-true, not-false}
-use Prim.Native.Nat.{ℕ, ◌+◌, ◌*◌, ◌≤◌, ◌<◌}
+-- What an accepted sheet has.
+use borrow.Author.Tests.{ltb-false, eqb-true, not-false}
+use Prim.Native.Nat.{ℕ, ◌+◌, ◌*◌, ◌≤◌}
 use mathlib.Core.Path.{◌≡◌, refl}
 use mathlib.Core.Bool.{Bool, true, false, not, ◌&&◌, ◌||◌}
-use native.Mathlib.Nat.{mul-le-mul}
 use native.Mathlib.Omega.{arith}
 use lib.Dec.{eqb, ltb}
 use Rattle.seq.specs.Choice.{pick}
@@ -16,35 +15,6 @@ not_too_much m n rule limit h =
     let a = neither (ltb 32 m) (ltb 64 n || (not (eqb rule 1) && ltb 4294967295 limit)) h in
     let b = neither (ltb 64 n) (not (eqb rule 1) && ltb 4294967295 limit) a.1 in
     (ltb-false 32 m a.0, ltb-false 64 n b.0, b.1)
-
-pub entries_few : (m n rule limit : ℕ) → too_much m n rule limit ≡ false → m * n ≤ 2048
-entries_few m n rule limit h =
-    let a = not_too_much m n rule limit h in
-    mul-le-mul a.0 a.1
-
-module _ (entries m n many edition rule limit : ℕ) where
-  pub unknown_rule : 2 < rule → 2 ≡ write_fault entries m n many edition rule limit
-  unfolding write_fault
-  unknown_rule h = rw (lt-ltb 2 rule h)
-
-  pub too_much_lem : rule ≤ 2 → too_much m n rule limit ≡ true → 3 ≡ write_fault entries m n many edition rule limit
-  unfolding write_fault
-  too_much_lem h g = rw (le-ltb 2 rule h, g)
-
-  pub other_length : rule ≤ 2 → too_much m n rule limit ≡ false → (not (eqb entries (m * n)) || not (eqb many m)) ≡ true
-      → 4 ≡ write_fault entries m n many edition rule limit
-  unfolding write_fault
-  other_length h g e = rw (le-ltb 2 rule h, g, e)
-
-  pub unknown_edition : rule ≤ 2 → too_much m n rule limit ≡ false → (not (eqb entries (m * n)) || not (eqb many m)) ≡ false
-      → (not (eqb edition 1) && not (eqb edition 2)) ≡ true → 13 ≡ write_fault entries m n many edition rule limit
-  unfolding write_fault
-  unknown_edition h g e f = rw (le-ltb 2 rule h, g, e, f)
-
-  pub no_fault : rule ≤ 2 → too_much m n rule limit ≡ false → (not (eqb entries (m * n)) || not (eqb many m)) ≡ false
-      → (not (eqb edition 1) && not (eqb edition 2)) ≡ false → 0 ≡ write_fault entries m n many edition rule limit
-  unfolding write_fault
-  no_fault h g e f = rw (le-ltb 2 rule h, g, e, f)
 
 -- what an accepted sheet has
 pub record Accepted (entries m n many edition rule limit : ℕ) : Type 0 where

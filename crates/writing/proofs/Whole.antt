@@ -35,25 +35,25 @@ sheet_most s h g =
     )
 
 -- refused before the text is known, or because it is longer than the buffer, and written
-module _ (fault number : ℕ) (s : Sheet) (text : List ℕ) where
-  pub refused : number ≡ fault → (number ≡ 0 → ⊥) → WroteSheet fault s text (record { number = number; length = 0 }) text
-  refused e h =
+module _ (fault : ℕ) (s : Sheet) (text : List ℕ) where
+  pub refused : (number : ℕ) → number ≡ fault → (number ≡ 0 → ⊥) → WroteSheet fault s text (record { number = number; length = 0 }) text
+  refused number e h =
       let p = ne_eqb number 0 h in
       record { number = rw (← e, p); long = rw p; writes = rw p }
 
-  pub too_long : (out : List ℕ) (r : ℕ) (out' : List ℕ) → number ≡ fault → number ≡ 0 → WroteOn (sheet_text s) 0 out r out' → length text < r
+  pub too_long : (out : List ℕ) (r : ℕ) (out' : List ℕ) → 0 ≡ fault → WroteOn (sheet_text s) 0 out r out' → length text < r
       → WroteSheet fault s text (record { number = 16; length = 0 }) text
-  too_long out r out' e h w l =
+  too_long out r out' e w l =
       let p = lt-ltb (length text) (length (sheet_text s)) (omega (arith, w.ends)) in
-      record { number = rw (← e, h, p); long = refl; writes = refl }
+      record { number = rw (← e, p); long = refl; writes = refl }
 
-  pub written : (out : List ℕ) (r : ℕ) (out' ys text' : List ℕ) → number ≡ fault → number ≡ 0 → WroteOn (sheet_text s) 0 out r out' → r ≤ length text
+  pub written : (out : List ℕ) (r : ℕ) (out' ys text' : List ℕ) → 0 ≡ fault → WroteOn (sheet_text s) 0 out r out' → r ≤ length text
       → ys ≡ take r out' → text' ≡ ys ++ drop r text → WroteSheet fault s text (record { number = 0; length = r }) text'
-  written out r out' ys text' e h w l g k =
+  written out r out' ys text' e w l g k =
       let p = le-ltb (length text) (length (sheet_text s)) (omega (arith, w.ends)) in
       let q : r ≡ length (sheet_text s) = omega (arith, w.ends) in
       record {
-        number = rw (← e, h, p);
+        number = rw (← e, p);
         long = q;
         writes = k ∙ ap (λ (x : List ℕ). x ++ drop r text) (g ∙ front_text_lem (sheet_text s) out r out' w)
             ∙ ap (λ (n : ℕ). sheet_text s ++ drop n text) q;

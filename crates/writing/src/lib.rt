@@ -4,20 +4,23 @@
 ghost use Rattle.std.specs.Prelude.{◌≡◌, ◌*◌, ◌≤◌, length};
 ghost use Rattle.fields.specs.Steps.{WroteOn};
 ghost use Rattle.form.specs.Sheets.{sheet_text};
+ghost use Rattle.refusal.specs.Refusals.{number_in};
 ghost use Rattle.writing.specs.Writing.{sheet_for, write_fault, WroteFor};
 
 use body::put_columns;
 use opening::put_head;
 use putting::copy_bytes;
+use refusal::Refusal;
 
 // What the writer answers: the refusal's number, 0 where there is none, and how long the text is.
-#[derive(Drop)]
+#[derive(Clone, Copy)]
 pub struct Written {
     pub number: u64,
     pub length: usize,
 }
 
-// What is refused before the text is known.
+// What is refused before the text is known. An unknown rule is refused as a target of 0 is.
+#[tactic(auto, unfolding(crate::specs::Writing::write_fault))]
 fn write_fault(
     entries: usize,
     m: usize,
@@ -26,22 +29,22 @@ fn write_fault(
     edition: u32,
     rule: u32,
     limit: u64,
-) -> u64
-    ensures { result ≡ write_fault entries m n many edition rule limit }
+) -> Result<(), Refusal>
+    ensures { number_in result ≡ write_fault entries m n many edition rule limit }
 {
-    if 2 < rule {
-        return 2;
+    if rule > 2 {
+        return Err(Refusal::Zero);
     }
-    if (32 < m) | ((64 < n) | ((rule != 1) & (4294967295 < limit))) {
-        return 3;
+    if m > 32 || n > 64 || (rule != 1 && limit > 4294967295) {
+        return Err(Refusal::Size);
     }
-    if (entries != m * n) | (many != m) {
-        return 4;
+    if entries != m * n || many != m {
+        return Err(Refusal::Length);
     }
-    if (edition != 1) & (edition != 2) {
-        return 13;
+    if edition != 1 && edition != 2 {
+        return Err(Refusal::Edition);
     }
-    0
+    Ok(())
 }
 
 // Writes a sheet at the front of a buffer that holds any, and says where it ends.
@@ -81,9 +84,11 @@ pub fn write_sheet(
     ensures { WroteFor matrix.now m n weights.now seed edition rule allowance limit text.old result
         text.new }
 {
-    let number = write_fault(matrix.len(), m, n, weights.len(), edition, rule, limit);
-    if number != 0 {
-        return Written { number, length: 0 };
+    if let Err(refusal) = write_fault(matrix.len(), m, n, weights.len(), edition, rule, limit) {
+        return Written {
+            number: refusal.number(),
+            length: 0,
+        };
     }
     let mut out = [0u8; 35600];
     let long = put_sheet(
@@ -100,7 +105,7 @@ pub fn write_sheet(
     );
     if text.len() < long {
         return Written {
-            number: 16,
+            number: Refusal::Buffer.number(),
             length: 0,
         };
     }

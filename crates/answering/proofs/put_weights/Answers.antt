@@ -26,4 +26,4 @@ pub shape_of-out : goal.shape_of-out
 shape_of-out c = c.loop-j.invariant.same
 
 pub returns : goal.returns
-returns c = lining_whole c.loop-j.invariant (omega (arith, c.loop-j-test.false))
+returns c = lining_whole c.loop-j.invariant (omega arith)

@@ -1,11 +1,6 @@
 -- `answering::put_weights` meets its contract. The loop's invariant: the lines of the first j weights are put.
 use Rattle.answering.proofs.Lines.{Lining}
-use Prim.Native.Nat.{◌-◌}
-use lib.ListN.{length}
 use Rattle.answering.proofs.put_weights.Given as goal
 
 abbrev pub invariant-loop-j : goal.invariant-loop-j
 invariant-loop-j l = Lining l.w l.at l.initial.out l.j l.end l.out
-
-abbrev pub decreases-loop-j : goal.decreases-loop-j
-decreases-loop-j l = length l.w - l.j

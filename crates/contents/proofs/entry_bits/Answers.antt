@@ -1,7 +1,5 @@
 -- `contents::entry_bits` meets its contract: n is not 0 where there is an entry, and every place is small enough.
 use Rattle.form.proofs.Rooms.{entry_room}
-use Rattle.fields.specs.declared.Field.{Field}
-use mathlib.Core.Path.{ap}
 use native.Mathlib.Omega.{arith}
 use Rattle.contents.proofs.entry_bits.Goals as goal
 
@@ -29,8 +27,5 @@ overflow_mul-k c = omega (arith, entry_room c.args.n c.args.k (omega arith) (ome
 pub overflow_add-line-5 : goal.overflow_add-line-5
 overflow_add-line-5 c = omega (arith, entry_room c.args.n c.args.k (omega arith) (omega arith))
 
-pub bits_at-requires : goal.bits_at-requires
-bits_at-requires c = omega (arith, entry_room c.args.n c.args.k (omega arith) (omega arith))
-
-pub returns : goal.returns
-returns c = ap (λ (f : Field). f.value) c.bits_at.ensures
+pub number-requires : goal.number-requires
+number-requires c = omega (arith, entry_room c.args.n c.args.k (omega arith) (omega arith))

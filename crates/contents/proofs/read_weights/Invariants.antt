@@ -1,12 +1,7 @@
 -- `contents::read_weights` meets its contract: the loop fills the weights.
 use Rattle.seq.proofs.Filling.{Filled}
 use Rattle.form.specs.Reading.{double_at, weight_place}
-use Prim.Native.Nat.{◌-◌}
-use lib.ListN.{length}
 use Rattle.contents.proofs.read_weights.Given as goal
 
 abbrev pub invariant-loop-j : goal.invariant-loop-j
 invariant-loop-j l = Filled (λ i. double_at l.text (weight_place l.start l.n i)) l.initial.weights l.j l.weights
-
-abbrev pub decreases-loop-j : goal.decreases-loop-j
-decreases-loop-j l = length l.initial.weights - l.j

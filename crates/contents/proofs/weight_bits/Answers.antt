@@ -1,7 +1,5 @@
 -- `contents::weight_bits` meets its contract: every place is small enough.
 use Rattle.form.proofs.Rooms.{column_room}
-use Rattle.fields.specs.declared.Field.{Field}
-use mathlib.Core.Path.{ap}
 use native.Mathlib.Omega.{arith}
 use Rattle.contents.proofs.weight_bits.Goals as goal
 
@@ -14,8 +12,5 @@ overflow_add-start c = omega (arith, column_room c.args.j c.args.n (omega arith)
 pub overflow_add-start-2 : goal.overflow_add-start-2
 overflow_add-start-2 c = omega (arith, column_room c.args.j c.args.n (omega arith) (omega arith))
 
-pub bits_at-requires : goal.bits_at-requires
-bits_at-requires c = omega (arith, column_room c.args.j c.args.n (omega arith) (omega arith))
-
-pub returns : goal.returns
-returns c = ap (λ (f : Field). f.value) c.bits_at.ensures
+pub number-requires : goal.number-requires
+number-requires c = omega (arith, column_room c.args.j c.args.n (omega arith) (omega arith))

@@ -1,22 +1,19 @@
--- `fields::spells` meets its contract: after k turns it says whether the first k bytes are the word's.
-use Rattle.seq.specs.Keep.{all_to}
-use Rattle.fields.specs.Bytes.{spelled}
-use mathlib.Core.Path.{◌≡◌, refl}
-use native.Mathlib.Omega.{arith}
-use native.Mathlib.Numerals.{add-one}
-use lib.ListN.{length}
+-- `fields::spells` meets its contract: the chain asks of each byte of the word whether it stands at its place.
+use borrow.Author.Tests.{tests}
+use lib.Dec.{eqb}
+use mathlib.Core.Path.{◌∙◌}
+use Prim.Native.Nat.{ℕ, ◌+◌}
+use Rattle.std.proofs.Common.{rules}
+use Rattle.std.proofs.lemmas.Iterator.{YieldsList-from_slice}
+use Rattle.std.proofs.lemmas.Iterator.Consumers.{YieldsList-from_enumerate}
+use Rattle.std.proofs.lemmas.Iterator.Search.{all_from_yields_List}
+use Rattle.fields.specs.Bytes.{byte_at, spelled}
+use Rattle.fields.proofs.Chains.{every_place}
 use Rattle.fields.proofs.spells.Goals as goal
-
-pub loop-k-init : goal.loop-k-init
-unfolding all_to
-loop-k-init c = (omega arith, refl)
-
-pub loop-k-preserved : goal.loop-k-preserved
-unfolding all_to
-loop-k-preserved c = (omega arith, rw (add-one, c.loop-k.invariant.1, c.byte_at.ensures))
 
 pub returns : goal.returns
 unfolding spelled
 returns c =
-    let done : c.loop-k.k ≡ length c.args.word.now = omega arith in
-    rw (← done) c.loop-k.invariant.1
+    all_from_yields_List (λ (p : ℕ × ℕ). eqb (byte_at c.args.text.now (c.args.at + p.0)) p.1)
+    _ _ c.all.result c.all.ensures.ran (YieldsList-from_enumerate (YieldsList-from_slice c.args.word.now cc) (cc)) (λ x b q k. search (rules, tests))
+    ∙ every_place (λ (k b : ℕ). eqb (byte_at c.args.text.now (c.args.at + k)) b) c.args.word.now

@@ -1,23 +1,19 @@
--- `gathering::start` meets its contract: the loop fills the marks.
-use Rattle.seq.proofs.Filling.{start, turn, whole}
-use mathlib.Core.Path.{refl}
-use native.Mathlib.Omega.{arith}
+-- `gathering::start` meets its contract: no line yet, and no mark.
+use Prim.Native.Nat.{ℕ, zero, suc}
+use mathlib.Core.Path.{◌≡◌, refl, sym, ap, ◌∙◌}
+use mathlib.Core.List.{List, [], ◌∷◌, ◌++◌}
+use native.Mathlib.Numerals.{add-one}
+use lib.ListN.{replicate}
+use Rattle.std.proofs.lemmas.Grind.{replicate_next}
+use Rattle.seq.specs.Lists.{repeated, tabulate}
 use Rattle.gathering.proofs.start.Goals as goal
 
-pub loop-i-init : goal.loop-i-init
-loop-i-init c = start _ _
-
-pub overflow_add-i : goal.overflow_add-i
-overflow_add-i c = omega (arith, c.loop-i-test.true, c.loop-i.invariant.long, c.well_formed)
-
-pub loop-i-smaller : goal.loop-i-smaller
-loop-i-smaller c = omega (arith, c.loop-i-test.true, c.loop-i.invariant.long)
-
-pub loop-i-preserved : goal.loop-i-preserved
-loop-i-preserved c = turn c.loop-i.invariant (omega (arith, c.loop-i-test.true, c.loop-i.invariant.long)) refl
-
-pub shape_of-marks : goal.shape_of-marks
-shape_of-marks c = c.loop-i.invariant.long
+-- a list of zeros
+zeros : (n : ℕ) → replicate {A = ℕ} n 0 ≡ repeated 0 n
+unfolding tabulate
+zeros zero = refl
+zeros (suc n) =
+    ap (λ (k : ℕ). replicate {A = ℕ} k 0) (sym (add-one n)) ∙ replicate_next {X = ℕ} n 0 ∙ ap (λ (s : List ℕ). s ++ (0 ∷ [])) (zeros n)
 
 pub returns : goal.returns
-returns c = (refl, whole c.loop-i.invariant (omega (arith, c.loop-i-test.false, c.loop-i.invariant.long)))
+returns c = (refl, c.fill.ensures.after (λ y e. e) ∙ zeros _)

@@ -1,8 +1,7 @@
 -- `keeping::put_good` meets its contract: three pieces side by side.
-use Rattle.fields.specs.declared.Field.{Field}
 use Rattle.fields.proofs.Widths.{length-count, width_most}
 use Rattle.keeping.proofs.Fronts.{back_is, good_wrote}
-use Prim.Native.Nat.{◌-◌}
+use Prim.Native.Nat.{ℕ, ◌+◌, ◌-◌}
 use mathlib.Core.Path.{ap, ◌∙◌}
 use native.Mathlib.Omega.{arith}
 use lib.ListN.{length-drop, length, take, drop}
@@ -14,12 +13,12 @@ put_count-b-requires c =
 
 pub slice_bounds-put_word-count : goal.slice_bounds-put_word-count
 slice_bounds-put_word-count c =
-    omega (arith, ap (λ (f : Field). f.next) c.count_at-place.ensures, c.requires.0)
+    omega (arith, c.width_at-place.ensures, c.requires.0)
 
 pub put_word-requires : goal.put_word-requires
 put_word-requires c =
     let sheet = c.args.sheet.now in
-    let place = c.count_at-place.result.next in
+    let place = (5 + c.width_at-place.result) in
     omega (
       arith,
       ap length (back_is place sheet),
@@ -36,7 +35,7 @@ put_word-requires c =
 pub returns : goal.returns
 returns c =
     let sheet = c.args.sheet.now in
-    let place = c.count_at-place.result.next in
+    let place = (5 + c.width_at-place.result) in
     good_wrote c.args.kept sheet (take (length sheet - place) (drop place sheet)) c.requires.1 c.put_word-a.auto.out
     c.put_word-a.ensures c.put_count-b.ensures c.put_word.ensures
-    (back_is place sheet ∙ ap (λ (f : Field). drop f.next sheet) c.count_at-place.ensures)
+    (back_is place sheet ∙ ap (λ (k : ℕ). drop (5 + k) sheet) c.width_at-place.ensures)

@@ -1,19 +1,17 @@
--- `lines::are_entries` meets its contract: after k turns it says whether the first k places hold an entry each, and every place is small enough.
-use Rattle.seq.specs.Keep.{all_to}
-use mathlib.Core.Path.{◌≡◌, refl}
+-- `lines::are_entries` meets its contract: the chain asks of each place whether an entry stands there.
+use borrow.Author.Tests.{tests}
+use mathlib.Core.Path.{refl, ◌∙◌}
+use Prim.Native.Nat.{◌+◌, ◌*◌}
 use native.Mathlib.Omega.{arith}
-use native.Mathlib.Numerals.{add-one}
+use Rattle.std.proofs.Common.{rules}
+use Rattle.std.proofs.lemmas.Iterator.{YieldsList-from_range}
+use Rattle.std.proofs.lemmas.Iterator.Search.{all_from_yields_List}
+use Rattle.fields.proofs.Chains.{every_number}
+use Rattle.form.specs.Form.{is_entry}
 use Rattle.lines.proofs.are_entries.Goals as goal
-
-pub loop-k-init : goal.loop-k-init
-unfolding all_to
-loop-k-init c = (omega arith, refl)
-
-pub loop-k-preserved : goal.loop-k-preserved
-unfolding all_to
-loop-k-preserved c = (omega arith, rw (add-one, c.loop-k.invariant.1, c.is_bits.ensures, c.byte_at.ensures, add-one))
 
 pub returns : goal.returns
 returns c =
-    let done : c.loop-k.k ≡ c.args.n = omega arith in
-    rw (← done) c.loop-k.invariant.1
+    all_from_yields_List (λ k. is_entry c.args.text.now (c.args.at + 17 * k)) _ _ c.all.result c.all.ensures.ran
+    (YieldsList-from_range 0 c.args.n c.args.n refl (omega arith)) (λ x b q k. search (rules, tests))
+    ∙ every_number (λ k. is_entry c.args.text.now (c.args.at + 17 * k)) c.args.n

@@ -1,7 +1,7 @@
 -- `lines::columns_from` meets its contract: after j turns j columns are passed, and what stands from there is what is left to count.
 use Rattle.form.proofs.Rooms.{column_room}
 use Rattle.form.proofs.Columns.{passed_start, passed-turn, passed-left, passed-whole}
-use mathlib.Core.Path.{sym, ◌∙◌}
+use mathlib.Core.Path.{◌≡◌, sym, ◌∙◌}
 use native.Mathlib.Omega.{arith}
 use Rattle.lines.proofs.columns_from.Goals as goal
 
@@ -18,10 +18,12 @@ pub is_column-requires : goal.is_column-requires
 is_column-requires c = omega (arith, column_room c.loop-j.j c.args.n (omega arith) (omega arith))
 
 pub loop-j-preserved : goal.loop-j-preserved
-loop-j-preserved c = passed-turn c.loop-j.invariant (omega arith) (sym c.is_column.ensures ∙ c.if-is_column.true)
+loop-j-preserved c = passed-turn c.loop-j.invariant (omega arith) (sym c.is_column.ensures ∙ c.if-not-is_column.false)
 
-pub returns-else-is_column : goal.returns-else-is_column
-returns-else-is_column c = passed-left c.loop-j.invariant (omega arith) (sym c.is_column.ensures ∙ c.if-is_column.false)
+pub returns-then-not-is_column : goal.returns-then-not-is_column
+returns-then-not-is_column c = passed-left c.loop-j.invariant (omega arith) (sym c.is_column.ensures ∙ c.if-not-is_column.true)
 
-pub returns-after-loop-j : goal.returns-after-loop-j
-returns-after-loop-j c = passed-whole c.loop-j.invariant (omega arith)
+pub returns : goal.returns
+returns c =
+    let e : c.loop-j.j ≡ c.args.m = omega arith in
+    sym e ∙ passed-whole c.loop-j.invariant (omega arith)

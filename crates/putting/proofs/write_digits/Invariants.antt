@@ -4,6 +4,3 @@ use Rattle.putting.proofs.write_digits.Given as goal
 
 abbrev pub invariant-loop-k : goal.invariant-loop-k
 invariant-loop-k l = Writing l.base l.x l.initial.a l.rest l.k l.a
-
-abbrev pub decreases-loop-k : goal.decreases-loop-k
-decreases-loop-k l = l.k

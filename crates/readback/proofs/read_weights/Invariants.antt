@@ -2,12 +2,7 @@
 use Rattle.seq.proofs.Filling.{Filled}
 use Rattle.fields.specs.Fields.{bits_at}
 use Rattle.form.specs.Reading.{weight_place}
-use Prim.Native.Nat.{◌-◌}
-use lib.ListN.{length}
 use Rattle.readback.proofs.read_weights.Given as goal
 
 abbrev pub invariant-loop-j : goal.invariant-loop-j
 invariant-loop-j l = Filled (λ i. (bits_at l.text (weight_place l.start l.n i)).value) l.initial.weights l.j l.weights
-
-abbrev pub decreases-loop-j : goal.decreases-loop-j
-decreases-loop-j l = length l.initial.weights - l.j

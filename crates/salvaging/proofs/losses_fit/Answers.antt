@@ -17,4 +17,4 @@ loop-i-preserved c =
     c.is_kept.ensures c.lost_long-wide.ensures (omega (arith, c.if-left-wide.false))
 
 pub returns : goal.returns
-returns c = leaving_whole c.loop-i.invariant (omega (arith, c.loop-i-test.false))
+returns c = leaving_whole c.loop-i.invariant (omega arith)

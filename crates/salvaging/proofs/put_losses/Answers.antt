@@ -21,4 +21,4 @@ pub shape_of-out : goal.shape_of-out
 shape_of-out c = c.loop-i.invariant.same
 
 pub returns : goal.returns
-returns c = losing_whole c.loop-i.invariant (omega (arith, c.loop-i-test.false))
+returns c = losing_whole c.loop-i.invariant (omega arith)

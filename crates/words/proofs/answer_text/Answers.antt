@@ -15,22 +15,18 @@ abbrev goodText : List ℕ → Head → List ℕ
 goodText t h = moved_text h.rule (source_of h) (matrix_of t h) h.m h.n (weights_of t h)
 
 pub put_note-requires : goal.put_note-requires
-put_note-requires c = omega (arith, width_most c.wrong_line-line.result)
+put_note-requires c = omega (arith, width_most c.in-Err.line)
 
-pub returns-then-line-ne0 : goal.returns-then-line-ne0
+pub returns-in-Err : goal.returns-in-Err
 unfolding moved_answer
-returns-then-line-ne0 c =
-    answered_bad (goodText c.args.text.now) c.args.text.now c.wrong_line-line.result
-    c.wrong_line-line.ensures c.if-line-ne0.true c.put_note.ensures (omega (arith, c.requires))
+returns-in-Err c =
+    answered_bad (goodText c.args.text.now) c.args.text.now c.in-Err.line c.in-Err.ensures.0 c.in-Err.ensures.1
+    c.put_note.ensures (omega (arith, c.requires))
 
 pub answer_sheet-requires : goal.answer_sheet-requires
-answer_sheet-requires c =
-    sheet_asks c.args.text.now c.head_of.result c.wrong_line-line.result
-    c.wrong_line-line.ensures c.if-line-ne0.false c.head_of.ensures c.requires
+answer_sheet-requires c = sheet_asks c.args.text.now c.in-Ok.head c.in-Ok.ensures.0 c.in-Ok.ensures.1 c.requires
 
-pub returns : goal.returns
+pub returns-in-Ok : goal.returns-in-Ok
 unfolding moved_answer
-returns c =
-    answered_good (goodText c.args.text.now) c.args.text.now c.wrong_line-line.result
-    c.wrong_line-line.ensures c.head_of.result c.if-line-ne0.false c.head_of.ensures
-    c.answer_sheet.ensures
+returns-in-Ok c =
+    answered_good (goodText c.args.text.now) c.args.text.now c.in-Ok.head c.in-Ok.ensures.0 c.in-Ok.ensures.1 c.answer_sheet.ensures
