@@ -8,6 +8,7 @@ ghost use Rattle.std.specs.Prelude.{◌≤◌};
 use answers::Answer;
 use draw::SplitMix64;
 use report::{print_answer, print_path, print_totals, print_weights, put};
+use rules::Rule;
 use sparsification::{sparsify, sparsify_within};
 use std::io;
 use std::io::Write;
