@@ -9,7 +9,8 @@ use std::io;
 use std::io::Read;
 
 // Reads until the buffer is full or the input ends, and says how many bytes it put at the buffer's front: as much of what the reader still
-// has as there is room for. The error of a read ends it, and then nothing is said of what was read before.
+// has as there is room for. The error of a read ends it, and then nothing is said of what was read before. `read_exact` fails on an input that
+// is shorter than the buffer, so each read is asked for here.
 pub fn read_full<R: Read>(reader: &mut R, buf: &mut [u8]) -> io::Result<usize>
     ensures bound { ReadsAtMost result buf.new }
     ensures bytes { IfOk result (λ n. Consumes (R.remaining reader.old) (R.remaining reader.new) (take n buf.new)) }

@@ -26,26 +26,17 @@ fn read_all<R: Read>(input: &mut R, room: &mut [u8], marks: &mut [u8]) -> io::Re
 {
     let mut s = start(&mut marks[..]);
     let mut piece = [0u8; 65536];
-    let mut turns = 0u64;
-    while turns < 70368744177664 {
+    for _turn in 0..70368744177664u64 {
         let long = read_full(input, &mut piece[..])?;
         if long == 0 {
             return Ok(s);
         }
         s = feed(s, &piece[..long], &mut room[..], &mut marks[..]);
-        turns += 1;
     }
     Ok(s)
 }
 
-// How many lines are written at a time, of those that are left.
-fn some_of(left: usize) -> usize
-    ensures { (result ≤ 2000) × (result ≤ left) × (0 < left → 0 < result) }
-{
-    if left < 2000 { left } else { 2000 }
-}
-
-// Writes the lines of those of the first k lines behind line 1 that are lost.
+// Writes the lines of those of the first k lines behind line 1 that are lost, at most 2000 at a time.
 fn write_losses<W: Write>(output: &mut W, s: State, marks: &[u8], k: usize) -> io::Result<()>
     requires { (s.m ≤ 32) × (33 ≤ length marks.now) × (k < 9223372036854775808) }
     ensures { OnOk result (Appends (W.contents output.old) (W.contents output.new) (lost_text (kept_in s marks.now) 1 k)) }
@@ -53,7 +44,7 @@ fn write_losses<W: Write>(output: &mut W, s: State, marks: &[u8], k: usize) -> i
     let mut out = [0u8; 52000];
     let mut i = 0usize;
     while i < k {
-        let some = some_of(k - i);
+        let some = (k - i).min(2000);
         let long = put_losses(&mut out[..], 0, s, marks, 1 + i, some);
         output.write_all(&out[..long])?;
         i += some;

@@ -13,12 +13,12 @@ loop-i-init g c = (search rules, Appends-nil _)
 
 pub put_losses-long-requires : goal.put_losses-long-requires
 put_losses-long-requires g c =
-    let some = c.some_of-some in
+    let some = c.min-some in
     record {
-      room = omega (arith, lost_most (kept_in c.args.s c.args.marks.now) (1 + c.loop-i.i) some.result, some.ensures.0, some.array_long);
+      room = omega (arith, lost_most (kept_in c.args.s c.args.marks.now) (1 + c.loop-i.i) some.result, some.ensures, some.array_long);
       columns = c.requires.0;
       marked = c.requires.1;
-      numbered = omega (arith, some.ensures.1, c.requires.2);
+      numbered = omega (arith, some.ensures, c.requires.2);
     }
 
 pub loop-i-preserved : goal.loop-i-preserved
