@@ -39,9 +39,5 @@ pub fn next_gaussian(state: &mut u64, edition: u32) -> f64
 pub fn cap_of(capped: u32, cap: usize) -> Option<usize>
     ensures { result ≡ cap_of capped cap }
 {
-    if capped == 0 {
-        None
-    } else {
-        Some(cap)
-    }
+    if capped == 0 { None } else { Some(cap) }
 }

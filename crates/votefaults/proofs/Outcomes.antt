@@ -4,7 +4,7 @@ use mathlib.Core.Path.{◌≡◌, refl, sym, ap, ◌∙◌}
 use mathlib.Core.Bool.{Bool, true, false, ◌&&◌}
 use mathlib.Core.List.{List, ◌++◌}
 use native.Mathlib.Omega.{arith}
-use borrow.Author.Tests.{eq-eqb, ne_eqb, eqb-true}
+use borrow.Author.Tests.{ne_eqb, eqb-true}
 use lib.IntN.{ℤ}
 use lib.Dec.{T, eqb}
 use lib.ListN.{length, take, drop, length-append}
@@ -18,7 +18,7 @@ use Rattle.draw.specs.declared.SplitMix64.{SplitMix64}
 use Rattle.rules.specs.Rules.{rule_fault}
 use Rattle.rules.specs.declared.Rule.{Rule}
 use Rattle.faults.specs.Faults.{edition_fault, size_fault, value_fault, job_fault}
-use Rattle.answers.specs.Answers.{refusal, answer_of, returned, Thinned}
+use Rattle.answers.specs.Answers.{refusal, answer_of, Thinned}
 use Rattle.answers.specs.declared.Answer.{Answer}
 use Rattle.refusal.proofs.Reasons.{no_fault}
 use Rattle.answers.proofs.Accepting.{Sized, sizes-good, output-stage}
