@@ -4,6 +4,7 @@
 ghost use Rattle.std.specs.Prelude.{◌≡◌, true, length};
 ghost use Rattle.ieee.specs.Constants.{one};
 ghost use Rattle.limits.specs.Limits.{bounded};
+ghost use Rattle.refusal.specs.Refusals.{number_in};
 ghost use Rattle.faults.specs.Faults.{size_fault};
 ghost use Rattle.answers.specs.Answers.{Thinned};
 ghost use Rattle.items.specs.All.{call_fault, AllThinned, ThinnedAll, BitsThinnedAll};
@@ -16,6 +17,7 @@ use callfaults::{bits_whole_fault, whole_fault};
 use draw::SplitMix64;
 use faults::{item_fault, named_rule};
 use items::{Answers, no_answers};
+use refusal::Refusal;
 use rules::Rule;
 use seq::fill;
 use sparsification::thin_sound;
@@ -103,8 +105,10 @@ fn thin_items(
     answers
 }
 
-// Thins the items of a call that is not refused as a whole, on a scratch that is wiped first.
+// Thins the items of a call that is not refused as a whole, on a scratch that is wiped first. A refusal is answered here and not by the
+// calls, since a record of 64 answers beside another would take more stack than a call may.
 fn thin_tested(
+    tested: Result<(), Refusal>,
     matrix: &[f64],
     bits: &[u8],
     m: usize,
@@ -120,19 +124,24 @@ fn thin_tested(
     numbers: &mut [f64],
     indices: &mut [u32],
 ) -> Answers
-    requires { Tested 0 matrix.now bits.now m n items (listed weights.now seeds.now editions.now rules.now
+    requires { Tested (number_in tested) matrix.now bits.now m n items (listed weights.now seeds.now editions.now rules.now
         allowances.now limits.now) (length output.old) (length numbers.old) (length indices.old) }
-    ensures { AllThinned 0 (lent_as matrix.now bits.now m n) m n items
+    ensures { AllThinned (number_in tested) (lent_as matrix.now bits.now m n) m n items
         (listed weights.now seeds.now editions.now
         rules.now allowances.now limits.now) output.old numbers.old
         indices.old result output.new numbers.new indices.new }
 {
-    fill(&mut numbers[..], 0.0);
-    fill(&mut indices[..], 0);
-    thin_items(
-        matrix, bits, m, n, items, weights, seeds, editions, rules, allowances, limits, output,
-        numbers, indices,
-    )
+    match tested {
+        Err(refusal) => no_answers(refusal.number()),
+        Ok(()) => {
+            fill(&mut numbers[..], 0.0);
+            fill(&mut indices[..], 0);
+            thin_items(
+                matrix, bits, m, n, items, weights, seeds, editions, rules, allowances, limits,
+                output, numbers, indices,
+            )
+        }
+    }
 }
 
 // Thins each item as its job says, all on one matrix.
@@ -155,7 +164,7 @@ pub fn thin_all(
         rules.now allowances.now limits.now) output.old numbers.old
         indices.old result output.new numbers.new indices.new }
 {
-    if let Err(refusal) = whole_fault(
+    let tested = whole_fault(
         items,
         matrix,
         m,
@@ -169,11 +178,10 @@ pub fn thin_all(
         output.len(),
         numbers.len(),
         indices.len(),
-    ) {
-        return no_answers(refusal.number());
-    }
+    );
     let none = [0u8; 0];
     thin_tested(
+        tested,
         matrix,
         &none[..],
         m,
@@ -211,7 +219,7 @@ pub fn thin_all_bits(
         editions.now rules.now allowances.now limits.now) output.old
         numbers.old indices.old result output.new numbers.new indices.new }
 {
-    if let Err(refusal) = bits_whole_fault(
+    let tested = bits_whole_fault(
         items,
         bits,
         m,
@@ -225,11 +233,10 @@ pub fn thin_all_bits(
         output.len(),
         numbers.len(),
         indices.len(),
-    ) {
-        return no_answers(refusal.number());
-    }
+    );
     let none = [0.0f64; 0];
     thin_tested(
+        tested,
         &none[..],
         bits,
         m,
