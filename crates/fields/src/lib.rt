@@ -3,7 +3,7 @@
 
 ghost use Rattle.std.specs.Prelude.{◌≡◌, ◌+◌, ◌≤◌, SomeIff, true, length};
 ghost use Rattle.fields.specs.Bytes.{byte_at, spelled};
-ghost use Rattle.fields.specs.Digits.{digit_value, number_at};
+ghost use Rattle.fields.specs.Digits.{is_digit, is_letter, digit_value, number_at};
 ghost use Rattle.fields.specs.Fields.{is_bits, bits_at, width_at, has_count, count_at};
 ghost use Rattle.fields.specs.Texts.{width_of};
 
@@ -31,14 +31,30 @@ pub fn spells(word: &[u8], text: &[u8], at: usize) -> bool
         .all(|(k, b)| byte_at(text, at + k) == *b)
 }
 
+// Whether a byte is one of 0 to 9. A pattern of both kinds of digits is compiled to a branch, which a digit decides, and these tests are not.
+fn is_digit(b: u8) -> bool
+    ensures { result ≡ is_digit b }
+{
+    (b'0' <= b) & (b <= b'9')
+}
+
+// Whether a byte is one of A to F.
+fn is_letter(b: u8) -> bool
+    ensures { result ≡ is_letter b }
+{
+    (b'A' <= b) & (b <= b'F')
+}
+
 // What a digit says, and 0 for a byte that is none.
 fn digit_value(b: u8) -> u64
     ensures { result ≡ digit_value b }
 {
-    match b {
-        b'0'..=b'9' => (b - b'0') as u64,
-        b'A'..=b'F' => (b - b'A') as u64 + 10,
-        _ => 0,
+    if is_digit(b) {
+        (b - b'0') as u64
+    } else if is_letter(b) {
+        (b - b'A') as u64 + 10
+    } else {
+        0
     }
 }
 
@@ -54,12 +70,17 @@ pub fn number(text: &[u8], at: usize, width: usize, base: u64) -> u64
     v
 }
 
-// Whether sixteen digits of base 16 stand at a place, in upper case.
+// Whether sixteen digits of base 16 stand at a place, in upper case. All are asked.
 pub fn is_bits(text: &[u8], at: usize) -> bool
     requires { at ≤ 65536 }
     ensures { result ≡ is_bits text.now at }
 {
-    (0..16usize).all(|k| matches!(byte_at(text, at + k), b'0'..=b'9' | b'A'..=b'F'))
+    let mut ok = true;
+    for k in 0..16usize {
+        let b = byte_at(text, at + k);
+        ok &= is_digit(b) | is_letter(b);
+    }
+    ok
 }
 
 // The bits at a place.

@@ -17,11 +17,15 @@ fn is_label(y: i8) -> bool
     y == 1 || y == -1
 }
 
-// Whether every label is.
+// Whether every label is. All are asked, with no branch that a label decides.
 fn all_labels(labels: &[i8]) -> bool
     ensures { result ≡ all_labels labels.now }
 {
-    labels.iter().all(|y| is_label(*y))
+    let mut ok = true;
+    for y in labels {
+        ok &= is_label(*y);
+    }
+    ok
 }
 
 // 3 to 6, of the sizes.
